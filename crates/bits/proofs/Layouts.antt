@@ -1,0 +1,50 @@
+-- The two laws of layouts.
+use mathlib.Core.Path.{_≡_, _∙_, refl, sym, ap}
+use mathlib.Core.List.{List, [], _∷_}
+use mathlib.Core.Bool.{Bool, true, false, cond, _&&_}
+use Prim.Native.Nat.{ℕ, _+_, _*_, _/_, _%_, _^_, _<_}
+use native.Mathlib.Omega.{arith}
+use native.Mathlib.Nat.{mul-assoc, mul-add-div-right, mul-add-mod-self-right, mod-eq-of-lt}
+use lib.Dec.{ltb}
+use lib.Pow.{pow-pos, pow-add, high, mod-pow-add}
+use Rattle.std.proofs.shelf.Bits.{mul-add-lt}
+use Rattle.std.proofs.shelf.Tests.{and-parts, ltb-true, true≢false}
+use Rattle.bits.specs.Layout.{total, cut, join, fits, CutUndoesJoin, JoinUndoesCut}
+
+-- what a first value and the others that fit say of each
+pub first-fits : (w v : ℕ) (ws vs : List ℕ) → fits (w ∷ ws) (v ∷ vs) ≡ true → v < 2 ^ w
+first-fits w v ws vs h = ltb-true v (2 ^ w) (and-parts (ltb v (2 ^ w)) (fits ws vs) h .0)
+
+pub others-fit : (w v : ℕ) (ws vs : List ℕ) → fits (w ∷ ws) (v ∷ vs) ≡ true → fits ws vs ≡ true
+others-fit w v ws vs h = and-parts (ltb v (2 ^ w)) (fits ws vs) h .1
+
+-- a number that is put together has no more bits than its layout
+pub join-below : (ws vs : List ℕ) → fits ws vs ≡ true → join ws vs < 2 ^ total ws
+join-below [] [] h = omega arith
+join-below [] (v ∷ vs) h = absurd (true≢false (sym h))
+join-below (w ∷ ws) [] h = absurd (true≢false (sym h))
+join-below (w ∷ ws) (v ∷ vs) h =
+    rw (pow-add 2 w (total ws)) (omega (arith, mul-add-lt v (2 ^ total ws) (join ws vs) (2 ^ w) (first-fits w v ws vs h) (join-below ws vs (others-fit w v ws vs h))))
+
+-- bits above a layout change none of its fields
+pub cut-low : (ws : List ℕ) (m n : ℕ) → cut ws (m * 2 ^ total ws + n) ≡ cut ws n
+cut-low [] m n = refl
+cut-low (w ∷ ws) m n =
+    rw (pow-add 2 w (total ws), ← mul-assoc m (2 ^ w) (2 ^ total ws), mul-add-div-right (pow-pos (total ws)) (m * 2 ^ w) n, mul-add-mod-self-right m (2 ^ w) (n / 2 ^ total ws))
+    (ap (λ vs. n / 2 ^ total ws % 2 ^ w ∷ vs) (cut-low ws (m * 2 ^ w) n))
+
+pub cut-undoes-join : CutUndoesJoin
+cut-undoes-join [] [] h = refl
+cut-undoes-join [] (v ∷ vs) h = absurd (true≢false (sym h))
+cut-undoes-join (w ∷ ws) [] h = absurd (true≢false (sym h))
+cut-undoes-join (w ∷ ws) (v ∷ vs) h =
+    let rest = others-fit w v ws vs h in
+    rw (high v (total ws) (join-below ws vs rest), mod-eq-of-lt (first-fits w v ws vs h), cut-low ws v (join ws vs), cut-undoes-join ws vs rest)
+
+-- the fields of a number, put together, are its low bits
+pub join-low : (ws : List ℕ) (n : ℕ) → join ws (cut ws n) ≡ n % 2 ^ total ws
+join-low [] n = omega arith
+join-low (w ∷ ws) n = rw (join-low ws n) (sym (mod-pow-add n w (total ws)))
+
+pub join-undoes-cut : JoinUndoesCut
+join-undoes-cut ws n h = join-low ws n ∙ mod-eq-of-lt h
