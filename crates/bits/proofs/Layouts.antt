@@ -2,14 +2,15 @@
 use mathlib.Core.Path.{_≡_, _∙_, refl, sym, ap}
 use mathlib.Core.List.{List, [], _∷_}
 use mathlib.Core.Bool.{Bool, true, false, cond, _&&_}
-use Prim.Native.Nat.{ℕ, _+_, _*_, _/_, _%_, _^_, _<_}
+use Prim.Native.Nat.{ℕ, zero, suc, _+_, _*_, _/_, _%_, _^_, _<_}
 use native.Mathlib.Omega.{arith}
 use native.Mathlib.Nat.{mul-assoc, mul-add-div-right, mul-add-mod-self-right, mod-eq-of-lt}
 use lib.Dec.{ltb}
+use lib.ListN.{length, getD, take}
 use lib.Pow.{pow-pos, pow-add, high, mod-pow-add}
-use Rattle.std.proofs.shelf.Bits.{mul-add-lt}
-use Rattle.std.proofs.shelf.Tests.{and-parts, ltb-true, true≢false}
-use Rattle.bits.specs.Layout.{total, cut, join, fits, CutUndoesJoin, JoinUndoesCut}
+use Rattle.std.proofs.shelf.Bits.{mul-add-lt, mod-below}
+use Rattle.std.proofs.shelf.Tests.{and-parts, and-from, lt-ltb, ltb-true, true≢false}
+use Rattle.bits.specs.Layout.{total, cut, join, fits, octets, CutUndoesJoin, JoinUndoesCut}
 
 -- what a first value and the others that fit say of each
 pub first-fits : (w v : ℕ) (ws vs : List ℕ) → fits (w ∷ ws) (v ∷ vs) ≡ true → v < 2 ^ w
@@ -48,3 +49,20 @@ join-low (w ∷ ws) n = rw (join-low ws n) (sym (mod-pow-add n w (total ws)))
 
 pub join-undoes-cut : JoinUndoesCut
 join-undoes-cut ws n h = join-low ws n ∙ mod-eq-of-lt h
+
+-- the fields of a number fit their layout
+pub cut-fits : (ws : List ℕ) (n : ℕ) → fits ws (cut ws n) ≡ true
+cut-fits [] n = refl
+cut-fits (w ∷ ws) n = and-from (ltb (n / 2 ^ total ws % 2 ^ w) (2 ^ w)) (fits ws (cut ws n)) (lt-ltb (n / 2 ^ total ws % 2 ^ w) (2 ^ w) (mod-below (n / 2 ^ total ws) (2 ^ w) (pow-pos w))) (cut-fits ws n)
+
+-- octets fit the layout of so many octets
+pub octets-fit : (o : List ℕ) → ((i : ℕ) → getD o i 0 < 256) → fits (octets (length o)) o ≡ true
+octets-fit [] h = refl
+octets-fit (x ∷ o) h = and-from (ltb x 256) (fits (octets (length o)) o) (lt-ltb x 256 (h 0)) (octets-fit o (λ i. h (suc i)))
+
+-- the first so many octets are octets
+pub front-octets : (n : ℕ) (o : List ℕ) → ((i : ℕ) → getD o i 0 < 256) → (i : ℕ) → getD (take n o) i 0 < 256
+front-octets zero o h i = omega arith
+front-octets (suc n) [] h i = omega arith
+front-octets (suc n) (x ∷ o) h zero = h 0
+front-octets (suc n) (x ∷ o) h (suc i) = front-octets n o (λ j. h (suc j)) i
