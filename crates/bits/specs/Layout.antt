@@ -1,10 +1,10 @@
 -- A layout is the list of the widths of its fields in bits, the most significant field first.
 use mathlib.Core.Path.{_≡_}
-use mathlib.Core.List.{List, [], _∷_, _++_, map}
+use mathlib.Core.List.{List, [], _∷_, map}
 use mathlib.Core.Bool.{Bool, true, false, cond, _&&_}
 use Prim.Native.Nat.{ℕ, _+_, _*_, _/_, _%_, _^_, _<_}
 use lib.Dec.{ltb, leb}
-use lib.ListN.{length, drop, replicate}
+use lib.ListN.{length, replicate}
 use Rattle.std.specs.declared.option.Option.{Option}
 use Rattle.std.specs.declared.option.Option.the-variants.{Some, None}
 
@@ -57,7 +57,3 @@ values fs = map (λ f. f .1) fs
 -- the number of these fields, unless a value is wider than its field or they have more than 127 bits
 abbrev pub assembled : List (ℕ × ℕ) → Option ℕ
 assembled fs = cond (leb (total (widths fs)) 127 && fits (widths fs) (values fs)) (Some (join (widths fs) (values fs))) None
-
--- a buffer that begins with these octets and keeps the rest of its own
-abbrev pub beginning : List ℕ → List ℕ → List ℕ
-beginning o buffer = o ++ drop (length o) buffer

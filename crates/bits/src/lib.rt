@@ -5,6 +5,7 @@
 //! octets, and the octets of a word. All of it is plain arithmetic on at most 128 bits: no layer is known here.
 ghost use mathlib.Core.Path.{_≡_};
 ghost use Prim.Native.Nat.{_/_, _%_, _^_};
+ghost use Rattle.bits.specs.Codec.{put, putAnswer};
 ghost use Rattle.bits.specs.Layout.{assembled, cut, number, octets, CutUndoesJoin, JoinUndoesCut};
 
 /// The field of `width` bits that has `shift` bits of the word below it.
@@ -55,6 +56,19 @@ pub fn octets_of(word: u128) -> [u8; 16]
     ensures { λ r. ⌜ r ≡ cut (octets 16) word ⌝ }
 {
     word.to_be_bytes()
+}
+
+/// Puts octets first into a buffer, and answers how many they are. None where they find no room: the buffer then stays.
+pub fn put_first(octets: &[u8], buffer: &mut [u8]) -> Option<usize>
+    ensures answer { λ r. ⌜ r ≡ putAnswer (now (octets .entry)) (now (buffer .entry)) ⌝ }
+    ensures after { λ _. ⌜ now (buffer .exit) ≡ put (now (octets .entry)) (now (buffer .entry)) ⌝ }
+{
+    let count = octets.len();
+    if buffer.len() < count {
+        return None;
+    }
+    buffer[0..count].copy_from_slice(octets);
+    Some(count)
 }
 
 /// Taking apart and putting together undo each other, for every layout.

@@ -7,19 +7,20 @@ use native.Mathlib.Omega.{arith}
 use lib.Dec.{eqb, ltb, leb}
 use lib.ListN.{length, getD, set, take, drop}
 use borrow.Rule.Slice.PartMut.{putMid}
-use Rattle.std.proofs.shelf.Lists.{take-at}
-use Rattle.std.proofs.shelf.Tests.{lt-ltb, le-ltb, le-leb, lt-leb}
+use Rattle.std.proofs.shelf.Tests.{lt-ltb, le-ltb}
 use Rattle.std.proofs.shelf.Ways.{tells}
 use Rattle.std.specs.declared.option.Option.{Option}
 use Rattle.std.specs.declared.option.Option.the-variants.{Some, None}
 use Rattle.std.specs.declared.result.Result.{Result}
 use Rattle.std.specs.declared.result.Result.the-variants.{Ok, Err}
-use Rattle.bits.specs.Layout.{cut, join, fits, octets, number, beginning}
+use Rattle.bits.specs.Layout.{cut, join, fits, octets, number}
+use Rattle.bits.specs.Codec.{carry, encoding, beginning}
+use Rattle.bits.proofs.Codecs.{granted}
 use Rattle.bits.proofs.Layouts.{join-below, cut-undoes-join, join-undoes-cut, cut-fits, octets-fit, front-octets}
 use Rattle.frame.specs.Header.{headerLayout, headerFields, headerWith, withConstruction, headerOf, allowed, qualityCode, qualityOf, kindCode, kindOf, constructionCode, constructionOf, idCode, idOf}
 use Rattle.std.specs.Vec.{made}
 use Rattle.frame.specs.declared.frame.Frame.{Frame}
-use Rattle.frame.specs.Frame.{FrameValue, frameValue, seen, readFields, readFrame, withHeader, fieldsOf, frameOctets, readable, encoded, writeAnswer, written}
+use Rattle.frame.specs.Frame.{FrameValue, frameValue, seen, readFields, readFrame, withHeader, fieldsOf, frameOctets, encoded}
 use Rattle.frame.specs.declared.header.Header.{Header}
 use Rattle.frame.specs.declared.header.Quality.{Quality}
 use Rattle.frame.specs.declared.header.Quality.the-variants.{SequenceControlled, Expedited}
@@ -77,17 +78,12 @@ own-octets f h =
     ∙ fields-judged f size refl
 
 -- a frame's encoding, test by test
-pub encoded-is : (f : FrameValue) → encoded f ≡ cond (fits headerLayout (fieldsOf f)) (readable (frameOctets f) (judged f)) (Err fault.TooWide)
+pub encoded-is : (f : FrameValue) → encoded f ≡ encoding fault.TooWide (fits headerLayout (fieldsOf f)) (frameOctets f) (judged f)
 encoded-is f = by (fits headerLayout (fieldsOf f)) refl
   where
-    by : (t : Bool) → fits headerLayout (fieldsOf f) ≡ t → cond t (readable (frameOctets f) (readFrame (frameOctets f))) (Err fault.TooWide) ≡ cond t (readable (frameOctets f) (judged f)) (Err fault.TooWide)
-    by true e = ap (readable (frameOctets f)) (own-octets f e)
+    by : (t : Bool) → fits headerLayout (fieldsOf f) ≡ t → encoding fault.TooWide t (frameOctets f) (readFrame (frameOctets f)) ≡ encoding fault.TooWide t (frameOctets f) (judged f)
+    by true e = ap (encoding fault.TooWide true (frameOctets f)) (own-octets f e)
     by false e = refl
-
-granted : (f : FrameValue) (o : List ℕ) (t : Bool) (r : Result FrameValue FrameFault) → cond t (readable (frameOctets f) r) (Err fault.TooWide) ≡ Ok o → (t ≡ true) × ((frameOctets f ≡ o) × ((e : FrameFault) → r ≡ Err e → ⊥))
-granted f o true (Ok g) h = (refl, (cc, λ e q. let z : _≡_ {A = ℕ} 0 1 = cc in omega arith))
-granted f o true (Err e) h = absurd (let z : _≡_ {A = ℕ} 0 1 = cc in omega arith)
-granted f o false r h = absurd (let z : _≡_ {A = ℕ} 0 1 = cc in omega arith)
 
 judged-ok : (f : FrameValue) → ((e : FrameFault) → judged f ≡ Err e → ⊥) → judged f ≡ Ok f
 judged-ok f h = ok (ltb 0 (length (f .payload))) (allowed (f .header .kind) (f .header .quality) (f .header .construction)) h
@@ -100,9 +96,9 @@ judged-ok f h = ok (ltb 0 (length (f .payload))) (allowed (f .header .kind) (f .
 -- reading undoes writing
 pub reading-undoes : (f : FrameValue) (o : List ℕ) → encoded f ≡ Ok o → readFrame o ≡ Ok f
 reading-undoes f o h =
-    let g = granted f o (fits headerLayout (fieldsOf f)) (readFrame (frameOctets f)) h in
-    let own = own-octets f (g .0) in
-    ap readFrame (sym (g .1 .0)) ∙ own ∙ judged-ok f (λ e q. g .1 .1 e (own ∙ q))
+    let g = granted fault.TooWide (fits headerLayout (fieldsOf f)) (frameOctets f) (readFrame (frameOctets f)) o h in
+    let own = own-octets f (g .fits) in
+    ap readFrame (sym (g .same)) ∙ own ∙ judged-ok f (λ e q. g .readable e (own ∙ q))
 
 quality-kept : (n : ℕ) → n < 2 → qualityCode (qualityOf n) ≡ n
 quality-kept n h = grind (arith, tells)
@@ -170,9 +166,9 @@ named a b c d e rest f bytes r =
         ∙ ap (λ v. v ++ f .payload) (cut-undoes-join (octets 5) os narrow)
         ∙ ap (λ p. a ∷ b ∷ c ∷ d ∷ e ∷ p) (t .data-field)
     in
-    ap (λ b. cond b (readable (frameOctets f) (readFrame (frameOctets f))) (Err fault.TooWide)) (ap (fits headerLayout) same ∙ cut-fits headerLayout w)
-    ∙ ap (λ o. readable o (readFrame o)) whole
-    ∙ ap (readable (a ∷ b ∷ c ∷ d ∷ e ∷ rest)) r
+    ap (λ t. encoding fault.TooWide t (frameOctets f) (readFrame (frameOctets f))) (ap (fits headerLayout) same ∙ cut-fits headerLayout w)
+    ∙ ap (λ o. encoding fault.TooWide true o (readFrame o)) whole
+    ∙ ap (encoding fault.TooWide true (a ∷ b ∷ c ∷ d ∷ e ∷ rest)) r
 
 -- writing undoes reading
 pub writing-undoes : (o : List ℕ) (f : FrameValue) → ((i : ℕ) → getD o i 0 < 256) → readFrame o ≡ Ok f → encoded f ≡ Ok o
@@ -203,61 +199,29 @@ five-then (_ ∷ _ ∷ _ ∷ _ ∷ _ ∷ xs) ys a b c d e h = let shorter : leng
 
 -- the four ways of a writing
 pub too-wide : (f : FrameValue) → fits headerLayout (fieldsOf f) ≡ false → encoded f ≡ Err fault.TooWide
-too-wide f w = ap (λ t. cond t (readable (frameOctets f) (readFrame (frameOctets f))) (Err fault.TooWide)) w
+too-wide f w = ap (λ t. encoding fault.TooWide t (frameOctets f) (readFrame (frameOctets f))) w
 
-encodes-as : (f : FrameValue) → fits headerLayout (fieldsOf f) ≡ true → encoded f ≡ readable (frameOctets f) (judged f)
-encodes-as f w = encoded-is f ∙ ap (λ t. cond t (readable (frameOctets f) (judged f)) (Err fault.TooWide)) w
+encodes-as : (f : FrameValue) → fits headerLayout (fieldsOf f) ≡ true → encoded f ≡ encoding fault.TooWide true (frameOctets f) (judged f)
+encodes-as f w = encoded-is f ∙ ap (λ t. encoding fault.TooWide t (frameOctets f) (judged f)) w
+
+-- the encoding of a frame whose values fit, by whether it has data, and whether its kind allows it
+abbrev decided : FrameValue → Bool → Bool → Result (List ℕ) FrameFault
+decided f some fine = encoding fault.TooWide true (frameOctets f) (cond some (cond fine (Ok f) (Err fault.Construction)) (Err fault.NoData))
+
+abbrev pub fine : FrameValue → Bool
+fine f = allowed (f .header .kind) (f .header .quality) (f .header .construction)
 
 pub no-data : (f : FrameValue) → fits headerLayout (fieldsOf f) ≡ true → length (f .payload) ≡ 0 → encoded f ≡ Err fault.NoData
-no-data f w n = encodes-as f w ∙ ap (λ t. readable (frameOctets f) (cond t (cond (allowed (f .header .kind) (f .header .quality) (f .header .construction)) (Ok f) (Err fault.Construction)) (Err fault.NoData))) (le-ltb 0 (length (f .payload)) (omega arith))
+no-data f w n = encodes-as f w ∙ ap (λ t. decided f t (fine f)) (le-ltb 0 (length (f .payload)) (omega arith))
 
-pub not-allowed : (f : FrameValue) → fits headerLayout (fieldsOf f) ≡ true → 0 < length (f .payload) → allowed (f .header .kind) (f .header .quality) (f .header .construction) ≡ false → encoded f ≡ Err fault.Construction
-not-allowed f w n a =
-    encodes-as f w
-    ∙ ap (λ t. readable (frameOctets f) (cond t (cond (allowed (f .header .kind) (f .header .quality) (f .header .construction)) (Ok f) (Err fault.Construction)) (Err fault.NoData))) (lt-ltb 0 (length (f .payload)) n)
-    ∙ ap (λ t. readable (frameOctets f) (cond t (Ok f) (Err fault.Construction))) a
+pub not-allowed : (f : FrameValue) → fits headerLayout (fieldsOf f) ≡ true → 0 < length (f .payload) → fine f ≡ false → encoded f ≡ Err fault.Construction
+not-allowed f w n a = encodes-as f w ∙ ap (λ t. decided f t (fine f)) (lt-ltb 0 (length (f .payload)) n) ∙ ap (decided f true) a
 
-pub encodes : (f : FrameValue) → fits headerLayout (fieldsOf f) ≡ true → 0 < length (f .payload) → allowed (f .header .kind) (f .header .quality) (f .header .construction) ≡ true → encoded f ≡ Ok (frameOctets f)
-encodes f w n a =
-    encodes-as f w
-    ∙ ap (λ t. readable (frameOctets f) (cond t (cond (allowed (f .header .kind) (f .header .quality) (f .header .construction)) (Ok f) (Err fault.Construction)) (Err fault.NoData))) (lt-ltb 0 (length (f .payload)) n)
-    ∙ ap (λ t. readable (frameOctets f) (cond t (Ok f) (Err fault.Construction))) a
-
--- what is known of a test by the answer that hangs on it
-pub some-tells : (t : Bool) (n w : ℕ) → Some w ≡ cond t (Some n) None → (t ≡ true) × (w ≡ n)
-some-tells true n w e = (refl, cc)
-some-tells false n w e = absurd (let z : _≡_ {A = ℕ} 0 1 = cc in omega arith)
-
-pub none-tells : (t : Bool) (n : ℕ) → None ≡ cond t (Some n) None → t ≡ false
-none-tells true n e = absurd (let z : _≡_ {A = ℕ} 0 1 = cc in omega arith)
-none-tells false n e = refl
+pub encodes : (f : FrameValue) → fits headerLayout (fieldsOf f) ≡ true → 0 < length (f .payload) → fine f ≡ true → encoded f ≡ Ok (frameOctets f)
+encodes f w n a = encodes-as f w ∙ ap (λ t. decided f t (fine f)) (lt-ltb 0 (length (f .payload)) n) ∙ ap (decided f true) a
 
 -- what was read is encoded as it was
 pub undone : (o : List ℕ) (r : Result Frame FrameFault) → ((i : ℕ) → getD o i 0 < 256) → seen r ≡ readFrame o → made r (λ f. encoded (frameValue f) ≡ Ok o)
 undone o (Ok f) t e = writing-undoes o (frameValue f) t (sym e)
 undone o (Err x) t e = tt
 
--- what a refused writing promises
-pub refuses : (f : FrameValue) (buffer : List ℕ) (e : FrameFault) → encoded f ≡ Err e → (Err e ≡ writeAnswer (encoded f) (length buffer)) × (buffer ≡ written (encoded f) buffer)
-refuses f buffer e r = (ap (λ x. writeAnswer x (length buffer)) (sym r), ap (λ x. written x buffer) (sym r))
-
-pub small-buffer : (f : FrameValue) (buffer : List ℕ) → encoded f ≡ Ok (frameOctets f) → length buffer < length (f .payload) + 5 → (Err fault.Buffer ≡ writeAnswer (encoded f) (length buffer)) × (buffer ≡ written (encoded f) buffer)
-small-buffer f buffer r h =
-    let t : leb (length (frameOctets f)) (length buffer) ≡ false = lt-leb (length (frameOctets f)) (length buffer) (omega arith) in
-    (sym (ap (λ x. writeAnswer x (length buffer)) r ∙ ap (λ b. cond b (Ok (length (frameOctets f))) (Err fault.Buffer)) t),
-    sym (ap (λ x. written x buffer) r ∙ ap (λ b. cond b (beginning (frameOctets f) buffer) buffer) t))
-
--- what a granted writing promises
-pub record Granted (f : FrameValue) (buffer : List ℕ) : Type 0 where
-  pub answer : Ok (length (f .payload) + 5) ≡ writeAnswer (encoded f) (length buffer)
-  pub after : beginning (frameOctets f) buffer ≡ written (encoded f) buffer
-  pub undone : readFrame (take (length (f .payload) + 5) (beginning (frameOctets f) buffer)) ≡ Ok f
-
-pub grants : (f : FrameValue) (buffer : List ℕ) → encoded f ≡ Ok (frameOctets f) → length (f .payload) + 5 ≤ length buffer → Granted f buffer
-grants f buffer r h =
-    let t : leb (length (frameOctets f)) (length buffer) ≡ true = le-leb (length (frameOctets f)) (length buffer) (omega arith) in
-    let size : length (frameOctets f) ≡ length (f .payload) + 5 = omega arith in
-    record {
-        answer = sym (ap (λ x. writeAnswer x (length buffer)) r ∙ ap (λ b. cond b (Ok (length (frameOctets f))) (Err fault.Buffer)) t ∙ ap Ok size);
-        after = sym (ap (λ x. written x buffer) r ∙ ap (λ b. cond b (beginning (frameOctets f) buffer) buffer) t);
-        undone = ap readFrame (take-at (frameOctets f) (drop (length (frameOctets f)) buffer) (length (f .payload) + 5) size) ∙ reading-undoes f (frameOctets f) r }

@@ -10,7 +10,8 @@ use Rattle.std.specs.declared.option.Option.{Option}
 use Rattle.std.specs.declared.option.Option.the-variants.{Some, None}
 use Rattle.std.specs.declared.result.Result.{Result}
 use Rattle.std.specs.declared.result.Result.the-variants.{Ok, Err}
-use Rattle.bits.specs.Layout.{cut, join, fits, octets, number, beginning}
+use Rattle.bits.specs.Layout.{cut, join, fits, octets, number}
+use Rattle.bits.specs.Codec.{encoding}
 use Rattle.frame.specs.Header.{headerLayout, version, headerFields, headerOf}
 use Rattle.frame.specs.declared.frame.Frame.{Frame}
 use Rattle.frame.specs.declared.header.Header.{Header}
@@ -60,21 +61,6 @@ fieldsOf f = headerFields (f .header) (length (f .payload) + 4)
 abbrev pub frameOctets : FrameValue → List ℕ
 frameOctets f = cut (octets 5) (join headerLayout (fieldsOf f)) ++ f .payload
 
--- these octets, unless reading refuses them
-abbrev pub readable : List ℕ → Result FrameValue FrameFault → Result (List ℕ) FrameFault
-readable o (Ok _) = Ok o
-readable o (Err e) = Err e
-
--- the one encoding of a frame, unless a value is wider than its field or reading refuses it
+-- the one encoding of a frame
 abbrev pub encoded : FrameValue → Result (List ℕ) FrameFault
-encoded f = cond (fits headerLayout (fieldsOf f)) (readable (frameOctets f) (readFrame (frameOctets f))) (Err fault.TooWide)
-
--- what writing an encoding answers at a buffer of so many octets
-abbrev pub writeAnswer : Result (List ℕ) FrameFault → ℕ → Result ℕ FrameFault
-writeAnswer (Ok o) room = cond (leb (length o) room) (Ok (length o)) (Err fault.Buffer)
-writeAnswer (Err e) room = Err e
-
--- what the buffer holds after it
-abbrev pub written : Result (List ℕ) FrameFault → List ℕ → List ℕ
-written (Ok o) buffer = cond (leb (length o) (length buffer)) (beginning o buffer) buffer
-written (Err e) buffer = buffer
+encoded f = encoding fault.TooWide (fits headerLayout (fieldsOf f)) (frameOctets f) (readFrame (frameOctets f))

@@ -1,11 +1,12 @@
 //! Reading and writing frames.
 ghost use mathlib.Core.Path.{_≡_};
-ghost use lib.ListN.{length, take};
+ghost use lib.ListN.{take};
 ghost use Rattle.std.specs.Vec.{made};
 ghost use Rattle.std.specs.declared.result.Result.the-variants.{Ok};
+ghost use Rattle.bits.specs.Codec.{writeAnswer, written};
 ghost use Rattle.bits.specs.Layout.{cut};
 ghost use Rattle.frame.specs.Header.{headerLayout};
-ghost use Rattle.frame.specs.Frame.{encoded, frameValue, readFields, readFrame, seen, writeAnswer, written};
+ghost use Rattle.frame.specs.Frame.{encoded, frameValue, readFields, readFrame, seen};
 use bits::field;
 use bits::octets_of;
 use bits::word;
@@ -57,7 +58,7 @@ pub fn read_frame(octets: &[u8]) -> Result<Frame<'_>, FrameFault>
 
 /// Puts the octets of a frame first into the buffer, and answers how many they are. The rest of the buffer stays.
 pub fn write_frame(frame: Frame<'_>, buffer: &mut [u8]) -> Result<usize, FrameFault>
-    ensures answer { λ r. ⌜ r ≡ writeAnswer (encoded (frameValue (frame .entry))) (length (now (buffer .entry))) ⌝ }
+    ensures answer { λ r. ⌜ r ≡ writeAnswer FrameFault.Buffer (encoded (frameValue (frame .entry))) (now (buffer .entry)) ⌝ }
     ensures after { λ _. ⌜ now (buffer .exit) ≡ written (encoded (frameValue (frame .entry))) (now (buffer .entry)) ⌝ }
     ensures undone { λ r. ⌜ made r (λ n. readFrame (take n (now (buffer .exit))) ≡ Ok (frameValue (frame .entry))) ⌝ }
 {
