@@ -2,15 +2,16 @@
 use mathlib.Core.Path.{_≡_, _∙_, refl, sym, ap}
 use mathlib.Core.List.{List, [], _∷_}
 use mathlib.Core.Bool.{Bool, true, false, cond, _&&_}
-use Prim.Native.Nat.{ℕ, zero, suc, _+_, _*_, _/_, _%_, _^_, _<_}
+use Prim.Native.Nat.{ℕ, zero, suc, _+_, _*_, _/_, _%_, _^_, _≤_, _<_}
 use native.Mathlib.Omega.{arith}
 use native.Mathlib.Nat.{mul-assoc, mul-add-div-right, mul-add-mod-self-right, mod-eq-of-lt}
 use lib.Dec.{ltb}
 use lib.ListN.{length, getD, take}
-use lib.Pow.{pow-pos, pow-add, high, mod-pow-add}
+use lib.Pow.{pow-pos, pow-add, pow-mono, high, mod-pow-add, shr-shr}
+use Rattle.std.proofs.shelf.Lists.{length-replicate}
 use Rattle.std.proofs.shelf.Bits.{mul-add-lt, mod-below}
 use Rattle.std.proofs.shelf.Tests.{and-parts, and-from, lt-ltb, ltb-true, true≢false}
-use Rattle.bits.specs.Layout.{total, cut, join, fits, octets, CutUndoesJoin, JoinUndoesCut}
+use Rattle.bits.specs.Layout.{total, cut, join, fits, octets, number, CutUndoesJoin, JoinUndoesCut}
 
 -- what a first value and the others that fit say of each
 pub first-fits : (w v : ℕ) (ws vs : List ℕ) → fits (w ∷ ws) (v ∷ vs) ≡ true → v < 2 ^ w
@@ -66,3 +67,41 @@ front-octets zero o h i = omega arith
 front-octets (suc n) [] h i = omega arith
 front-octets (suc n) (x ∷ o) h zero = h 0
 front-octets (suc n) (x ∷ o) h (suc i) = front-octets n o (λ j. h (suc j)) i
+
+total-octets : (n : ℕ) → total (octets n) ≡ 8 * n
+total-octets zero = omega arith
+total-octets (suc n) = omega (arith, total-octets n)
+
+-- at most sixteen octets are a number of 128 bits
+pub number-small : (o : List ℕ) → ((i : ℕ) → getD o i 0 < 256) → length o ≤ 16 → number o % 2 ^ 128 ≡ number o
+number-small o h few =
+    let below : number o < 2 ^ total (octets (length o)) = join-below (octets (length o)) o (octets-fit o h) in
+    mod-eq-of-lt (omega (arith, below, pow-mono {i = total (octets (length o))} {j = 128} (omega (arith, total-octets (length o)))))
+
+-- a number has as many fields as its layout
+pub length-cut : (ws : List ℕ) (n : ℕ) → length (cut ws n) ≡ length ws
+length-cut [] n = refl
+length-cut (w ∷ ws) n = ap suc (length-cut ws n)
+
+-- the octets of a number are this number again
+pub number-cut : (k n : ℕ) → n < 2 ^ total (octets k) → number (cut (octets k) n) ≡ n
+number-cut k n h =
+    ap (λ m. join (octets m) (cut (octets k) n)) (length-cut (octets k) n ∙ length-replicate k 8) ∙ join-undoes-cut (octets k) n h
+
+-- a number of octets has these octets
+pub cut-number : (o : List ℕ) → ((i : ℕ) → getD o i 0 < 256) → cut (octets (length o)) (number o) ≡ o
+cut-number o h = cut-undoes-join (octets (length o)) o (octets-fit o h)
+
+pub number-octets : (o : List ℕ) → ((i : ℕ) → getD o i 0 < 256) → number o < 2 ^ total (octets (length o))
+number-octets o h = join-below (octets (length o)) o (octets-fit o h)
+
+-- the first three bits of octets are those of the first one
+pub first-bits : (x : ℕ) (o : List ℕ) (k : ℕ) → ((i : ℕ) → getD (x ∷ o) i 0 < 256) → k ≡ 8 * length o + 5 → number (x ∷ o) / 2 ^ k % 2 ^ 3 ≡ x / 32
+first-bits x o k h e =
+    let t = total (octets (length o)) in
+    let same : k ≡ t + 5 = omega (arith, e, total-octets (length o)) in
+    let top : number (x ∷ o) / 2 ^ t ≡ x = high x t (join-below (octets (length o)) o (octets-fit o (λ i. h (suc i)))) in
+    ap (λ j. number (x ∷ o) / 2 ^ j % 2 ^ 3) same
+    ∙ ap (λ m. m % 2 ^ 3) (sym (shr-shr (number (x ∷ o)) t 5))
+    ∙ ap (λ m. m / 2 ^ 5 % 2 ^ 3) top
+    ∙ omega (arith, h 0)

@@ -1,2 +1,5 @@
 pub mod Storing
+pub mod Runs
 pub mod Written
+pub mod Accepted
+pub mod Faults

@@ -1,3 +1,4 @@
 pub mod Lines
 pub mod Readings
 pub mod Texts
+pub mod Faults

@@ -1,6 +1,6 @@
 -- A line of a recording: what each character does, and what the line held when it ends.
 use mathlib.Core.List.{List, [], _∷_, _++_}
-use mathlib.Core.Bool.{Bool, true, cond, _&&_, _||_}
+use mathlib.Core.Bool.{Bool, true, false, cond, _&&_, _||_}
 use Prim.Native.Nat.{ℕ, _+_, _-_, _*_, _^_, min}
 use lib.Dec.{leb, ltb, eqb}
 use lib.ListN.{length}
@@ -84,12 +84,17 @@ pub record Reading : Type 0 where
 abbrev pub start : Reading
 start = record { octets = []; column = 0; place = Between }
 
+-- After one more character, by what it means.
+abbrev pub taken : Reading → Character → Reading
+taken r k = record {
+  octets = extended (r .octets) (finished (r .place) k);
+  column = next (r .column);
+  place = after (r .column) (r .place) k;
+}
+
 -- After one more character.
 abbrev pub step : Reading → ℕ → Reading
-step r c = record {
-    octets = extended (r .octets) (finished (r .place) (kind c));
-    column = next (r .column);
-    place = after (r .column) (r .place) (kind c) }
+step r c = taken r (kind c)
 
 -- After the characters of a text.
 abbrev pub steps : Reading → List ℕ → Reading
@@ -106,6 +111,12 @@ told n column Between = counted n
 told n column (Half h) = Faulty (HalfOctet column)
 told n column Comment = counted n
 told n column (Faulted f) = Faulty f
+
+-- Whether a line has no fault.
+abbrev pub faultless : Line → Bool
+faultless Empty = true
+faultless (Octets n) = true
+faultless (Faulty f) = false
 
 -- What a line held that ends here.
 abbrev pub outcome : Reading → Line

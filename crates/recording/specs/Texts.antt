@@ -1,14 +1,14 @@
 -- Lines of octets as they are written, and the law that reading gives back what was written.
 use mathlib.Core.List.{List, [], _∷_}
-use mathlib.Core.Bool.{Bool, cond}
+use mathlib.Core.Bool.{true, cond}
 use mathlib.Core.Path.{_≡_}
-use Prim.Native.Nat.{ℕ, _+_, _/_, _%_, _<_}
+use Prim.Native.Nat.{ℕ, _+_, _-_, _/_, _%_, _<_}
 use lib.Dec.{ltb}
 use lib.ListN.{length, take}
 use Rattle.std.specs.declared.option.Option.{Option}
 use Rattle.std.specs.declared.option.Option.the-variants.{Some, None}
 use Rattle.recording.specs.declared.line.Line.{Line}
-use Rattle.recording.specs.Lines.{Reading, start, steps, counted}
+use Rattle.recording.specs.Lines.{Reading, start, steps, counted, faultless}
 
 -- The blanks that may stand before, between and after octets.
 pub data Blank : Type 0 where
@@ -66,3 +66,14 @@ abbrev pub Reads-back : Reading → Line → List ℕ → Type 0
 Reads-back r answer octets =
     (ps : List Piece) (comment : Option (List ℕ)) → Sound ps → r ≡ steps start (written ps comment) →
     (octets ≡ take 2049 (octets-of ps)) × (answer ≡ counted (length (take 2049 (octets-of ps))))
+
+-- A text that is a written line, with its pieces and its comment.
+pub record Is-written (text : List ℕ) : Type 0 where
+  pub pieces : List Piece
+  pub comment : Option (List ℕ)
+  pub sound : Sound pieces
+  pub same : written pieces comment ≡ text
+
+-- Nothing else is read without a fault: where the answer tells of none, the characters that were read are those of a written line.
+abbrev pub Reads-only : Reading → Line → Type 0
+Reads-only r answer = (text : List ℕ) → r ≡ steps start text → faultless answer ≡ true → Is-written text

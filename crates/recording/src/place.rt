@@ -1,8 +1,7 @@
 // Where in a line a reader stands.
 ghost use mathlib.Core.Bool.{true};
 ghost use mathlib.Core.Path.{_≡_};
-ghost use Prim.Native.Nat.{ℕ};
-ghost use Rattle.recording.specs.Lines.{low, pending, after, finished, told};
+ghost use Rattle.recording.specs.Lines.{after, finished, low, pending, told};
 use crate::character::Character;
 use crate::line::Line;
 use crate::line::TextFault;
@@ -39,7 +38,7 @@ pub fn finish(place: Place, character: Character) -> Option<u8>
 pub fn advance(column: u64, place: Place, character: Character) -> Place
     requires { ⌜ low character ≡ true ⌝ }
     ensures after { λ r. ⌜ r ≡ after column place character ⌝ }
-    ensures pending { λ r. ⌜ (pending place ≡ true → pending r ≡ true) ⌝ }
+    ensures pending { λ r. ⌜ pending r ≡ true ⌝ }
 {
     match place {
         Place::Between => match character {

@@ -23,6 +23,7 @@ pub struct Reader {
     column: u64,
     /// Where the line under way stands.
     place: Place,
+    // What is stored stays within the memory, and a first digit that waits for its second is below 16.
     ghost within: { count ≤ 2049 },
     ghost whole: { ended ≤ 2049 },
     ghost digit: { pending place ≡ true },

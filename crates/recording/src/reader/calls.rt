@@ -3,16 +3,18 @@ ghost use lib.ListN.{length};
 ghost use mathlib.Core.List.{[]};
 ghost use mathlib.Core.Path.{_≡_};
 ghost use Prim.Native.Nat.{_≤_};
+ghost use Rattle.recording.specs.Faults.{Tells-first};
 ghost use Rattle.recording.specs.Lines.{start, step, outcome, joined};
 ghost use Rattle.recording.specs.Readings.{reading, latest};
+ghost use Rattle.recording.specs.Texts.{Reads-back, Reads-only};
+use super::LONGEST;
+use super::Reader;
 use crate::character::classify;
 use crate::line::Line;
 use crate::place::Place;
 use crate::place::advance;
 use crate::place::conclude;
 use crate::place::finish;
-use super::LONGEST;
-use super::Reader;
 
 impl Reader {
     /// A reader at the start of a line, with no line behind it.
@@ -20,7 +22,13 @@ impl Reader {
         ensures reading { λ r. ⌜ reading r ≡ start ⌝ }
         ensures latest { λ r. ⌜ latest r ≡ [] ⌝ }
     {
-        Reader { stored: [0; LONGEST], count: 0, ended: 0, column: 0, place: Place::Between }
+        Reader {
+            stored: [0; LONGEST],
+            count: 0,
+            ended: 0,
+            column: 0,
+            place: Place::Between,
+        }
     }
 
     /// Reads one more character of the line, which is not the line's end.
@@ -29,7 +37,7 @@ impl Reader {
         ensures latest { λ _. ⌜ latest (now (self .exit)) ≡ [] ⌝ }
     {
         let kind = classify(character);
-        // The line under way is stored where the last one is.
+        // The new line is stored over the last one.
         self.ended = 0;
         if let Some(octet) = finish(self.place, kind) {
             self.store(octet);
@@ -43,6 +51,9 @@ impl Reader {
         ensures answer { λ r. ⌜ r ≡ outcome (reading (now (self .entry))) ⌝ }
         ensures reading { λ _. ⌜ reading (now (self .exit)) ≡ start ⌝ }
         ensures latest { λ _. ⌜ latest (now (self .exit)) ≡ reading (now (self .entry)) .octets ⌝ }
+        ensures written { λ r. ⌜ Reads-back (reading (now (self .entry))) r (latest (now (self .exit))) ⌝ }
+        ensures only { λ r. ⌜ Reads-only (reading (now (self .entry))) r ⌝ }
+        ensures first { λ r. ⌜ Tells-first (reading (now (self .entry))) r ⌝ }
     {
         let line = conclude(self.count, self.column, self.place);
         self.ended = self.count;

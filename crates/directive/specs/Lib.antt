@@ -1,0 +1,5 @@
+pub mod Fault
+pub mod Rule
+pub mod Rate
+pub mod Link
+pub mod Directive

@@ -1,0 +1,9 @@
+//! The directives of a supervisory unit: link establishment, report request, SET V(R) and source id.
+//!
+//! A directive's fields lie end to end, the name in the first three bits. Reading tries the name, then whether the
+//! octets end inside the directive, then reserved codes and spare bits, then ranges. Reading and writing undo each
+//! other, octet for octet.
+pub mod fault;
+pub mod link;
+pub mod rate;
+pub mod directive;
