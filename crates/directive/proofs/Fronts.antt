@@ -1,13 +1,13 @@
 -- The directive at the front of octets.
-use mathlib.Core.Path.{_≡_, _∙_, refl, sym, ap}
+use mathlib.Core.Path.{_≡_, _∙_, refl, sym, ap, subst}
 use mathlib.Core.List.{List, [], _∷_}
-use mathlib.Core.Bool.{true, false, cond}
-use Prim.Native.Nat.{ℕ, _-_, _/_, _%_, _^_, _≤_, _<_}
+use mathlib.Core.Bool.{Bool, true, false, cond}
+use Prim.Native.Nat.{ℕ, _+_, _-_, _/_, _%_, _^_, _≤_, _<_}
 use native.Mathlib.Omega.{arith}
 use lib.Dec.{leb}
-use lib.ListN.{length, getD, take}
+use lib.ListN.{length, getD, take, drop, length-drop}
 use Rattle.std.proofs.shelf.Lists.{length-take-le}
-use Rattle.std.proofs.shelf.Tests.{le-leb, lt-leb}
+use Rattle.std.proofs.shelf.Tests.{le-leb, lt-leb, leb-true}
 use Rattle.std.specs.declared.option.Option.{Option}
 use Rattle.std.specs.declared.option.Option.the-variants.{Some, None}
 use Rattle.std.specs.declared.result.Result.{Result}
@@ -16,7 +16,7 @@ use Rattle.bits.specs.Codec.{carry}
 use Rattle.bits.specs.Layout.{cut, number}
 use Rattle.bits.proofs.Layouts.{number-small, front-octets}
 use Rattle.directive.specs.Rule.{judged, layout}
-use Rattle.directive.specs.Directive.{nameOf, rulesOf, sizeOf, fieldsIn, named, front}
+use Rattle.directive.specs.Directive.{nameOf, rulesOf, sizeOf, fieldsIn, named, front, Within}
 use Rattle.directive.specs.declared.directive.Name.{Name}
 use Rattle.directive.specs.declared.directive.Name.the-variants as name
 use Rattle.directive.specs.declared.fault.SpduFault.{SpduFault}
@@ -57,3 +57,21 @@ front-judged at o n size w r bytes h e same enough word j =
     front-named at o (Some n) h e
     ∙ ap (λ t. cond t (carry (judged at (rulesOf n) (fieldsIn n (take (sizeOf n) o))) (λ _. Ok (Some n))) (Err (fault.Cut at))) (le-leb (sizeOf n) (length o) room)
     ∙ ap (λ x. carry x (λ _. Ok (Some n))) (sym (j ∙ ap (λ k. judged at (rulesOf n) (cut (layout (rulesOf n)) k)) whole))
+
+named-room : (at : ℕ) (m : Option Name) (o : List ℕ) (n : Name) → named at m o ≡ Ok (Some n) → sizeOf n ≤ length o
+named-room at None o n e = absurd (let z : _≡_ {A = ℕ} 0 1 = cc in omega arith)
+named-room at (Some k) o n e = room (leb (sizeOf k) (length o)) (judged at (rulesOf k) (fieldsIn k (take (sizeOf k) o))) refl e
+  where
+    room : (t : Bool) (r : Result (Unit {0}) SpduFault) → leb (sizeOf k) (length o) ≡ t → cond t (carry r (λ _. Ok (Some k))) (Err (fault.Cut at)) ≡ Ok (Some n) → sizeOf n ≤ length o
+    room true (Ok u) q h = let same : k ≡ n = cc in subst (λ j. sizeOf j ≤ length o) same (leb-true (sizeOf k) (length o) q)
+    room true (Err x) q h = absurd (let z : _≡_ {A = ℕ} 0 1 = cc in omega arith)
+    room false r q h = absurd (let z : _≡_ {A = ℕ} 0 1 = cc in omega arith)
+
+pub front-room : (at : ℕ) (o : List ℕ) (n : Name) → front at o ≡ Ok (Some n) → (0 < length o) × (sizeOf n ≤ length o)
+front-room at [] n e = absurd (let z : _≡_ {A = ℕ} 0 1 = cc in omega arith)
+front-room at (x ∷ o) n e = (omega arith, named-room at (nameOf (x / 32)) (x ∷ o) n e)
+
+pub front-within : (at : ℕ) (unit : List ℕ) (r : Result (Option Name) SpduFault) → r ≡ front at (drop at unit) → Within at unit r
+front-within at unit (Ok (Some n)) e = let g = front-room at (drop at unit) n (sym e) in omega (arith, g .0, g .1, length-drop at unit)
+front-within at unit (Ok None) e = tt
+front-within at unit (Err x) e = tt

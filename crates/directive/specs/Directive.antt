@@ -1,7 +1,7 @@
 -- Directives by their octets.
 use mathlib.Core.List.{List, [], _∷_}
 use mathlib.Core.Bool.{Bool, cond}
-use Prim.Native.Nat.{ℕ, _+_, _/_}
+use Prim.Native.Nat.{ℕ, _+_, _/_, _≤_}
 use lib.Dec.{eqb, leb}
 use lib.ListN.{length, getD, take}
 use Rattle.std.specs.declared.option.Option.{Option}
@@ -67,6 +67,12 @@ named at (Some n) o =
 abbrev pub front : ℕ → List ℕ → Result (Option Name) SpduFault
 front at [] = Ok None
 front at (x ∷ o) = named at (nameOf (x / 32)) (x ∷ o)
+
+-- a directive that was found lies whole in its unit
+abbrev pub Within : ℕ → List ℕ → Result (Option Name) SpduFault → Type 0
+Within at unit (Ok (Some n)) = at + sizeOf n ≤ length unit
+Within at unit (Ok None) = Unit {0}
+Within at unit (Err e) = Unit {0}
 
 -- the directive with that name and these values
 abbrev pub directiveOf : Name → List ℕ → Directive

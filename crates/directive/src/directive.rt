@@ -6,7 +6,7 @@ ghost use lib.Dec.{eqb};
 ghost use lib.ListN.{drop, take};
 ghost use Rattle.bits.specs.Codec.{writeAnswer, written};
 ghost use Rattle.bits.specs.Layout.{cut};
-ghost use Rattle.directive.specs.Directive.{directiveFits, directiveOf, directiveWord, encodedDirective, front, nameFor, nameOf, readDirective, rulesOf, sizeOf};
+ghost use Rattle.directive.specs.Directive.{Within, directiveFits, directiveOf, directiveWord, encodedDirective, front, nameFor, nameOf, readDirective, rulesOf, sizeOf};
 ghost use Rattle.directive.specs.Rule.{judged, layout};
 ghost use Rattle.std.specs.Vec.{made};
 ghost use Rattle.std.specs.declared.option.Option.the-variants.{Some, None};
@@ -172,7 +172,8 @@ fn front_of(octets: &[u8], at: usize) -> Result<Option<Name>, SpduFault>
 /// The name of the directive that starts at the octet `at` of a unit, once its fields are tried. None where the unit
 /// has no octet there.
 pub fn directive_at(unit: &[u8], at: usize) -> Result<Option<Name>, SpduFault>
-    ensures { λ r. ⌜ r ≡ front at (drop at (now (unit .entry))) ⌝ }
+    ensures answer { λ r. ⌜ r ≡ front at (drop at (now (unit .entry))) ⌝ }
+    ensures within { λ r. ⌜ Within at (now (unit .entry)) r ⌝ }
 {
     if at >= unit.len() {
         return Ok(None);

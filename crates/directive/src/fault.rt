@@ -2,6 +2,7 @@
 ghost use Rattle.directive.specs.Fault.{spduFault};
 use fault::Fault;
 use fault::Layer;
+use std::fmt;
 
 /// Why octets are no supervisory unit, or why one cannot be written. Octets count from 0 in the unit.
 #[derive(Clone, Copy, PartialEq, Eq, Debug)]
@@ -46,5 +47,19 @@ pub impl Fault for SpduFault as SpduFaultFault {
             SpduFault::Cut(at) | SpduFault::Reserved(at) | SpduFault::Range(at) => *at,
             SpduFault::Length | SpduFault::Kind | SpduFault::TooWide | SpduFault::Buffer => 0,
         }
+    }
+}
+
+pub impl fmt::Display for SpduFault as SpduFaultDisplay {
+    fn fmt<W: fmt::Write>(&self, f: &mut fmt::Formatter<W>) -> fmt::Result {
+        f.write_str(match self {
+            SpduFault::Length => "the unit is empty or of wrong length",
+            SpduFault::Kind => "the kind of unit is reserved",
+            SpduFault::Cut(_) => "the data field ends inside a directive",
+            SpduFault::Reserved(_) => "a name or a code is reserved, or a spare bit is set",
+            SpduFault::Range(_) => "a symbol rate or a frequency is out of range",
+            SpduFault::TooWide => "a value is wider than its field",
+            SpduFault::Buffer => "the buffer is too small",
+        })
     }
 }

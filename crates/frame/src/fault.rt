@@ -2,6 +2,7 @@
 ghost use Rattle.frame.specs.Fault.{frameFault};
 use fault::Fault;
 use fault::Layer;
+use std::fmt;
 
 /// Why octets are no frame, or why a frame cannot be written.
 #[derive(Clone, Copy, PartialEq, Eq, Debug)]
@@ -46,5 +47,19 @@ pub impl Fault for FrameFault as FrameFaultFault {
             FrameFault::Length => 2,
             _ => 0,
         }
+    }
+}
+
+pub impl fmt::Display for FrameFault as FrameFaultDisplay {
+    fn fmt<W: fmt::Write>(&self, f: &mut fmt::Formatter<W>) -> fmt::Result {
+        f.write_str(match self {
+            FrameFault::Size => "a frame has 5 to 2,048 octets",
+            FrameFault::Version => "the version is not binary 10",
+            FrameFault::Length => "the length field does not tell how many octets there are",
+            FrameFault::NoData => "the data field has no octet",
+            FrameFault::Construction => "the construction is reserved, or not one that the kind of frame allows",
+            FrameFault::TooWide => "a value is wider than its field",
+            FrameFault::Buffer => "the buffer is too small",
+        })
     }
 }

@@ -1,0 +1,4 @@
+pub mod ReportTrips
+pub mod Opened
+pub mod Sequence
+pub mod SpduTrips

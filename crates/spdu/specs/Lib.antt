@@ -1,0 +1,4 @@
+pub mod Report
+pub mod Item
+pub mod Items
+pub mod Spdu
