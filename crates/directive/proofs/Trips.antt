@@ -26,7 +26,7 @@ use Rattle.directive.specs.declared.directive.Directive.{Directive}
 use Rattle.directive.specs.declared.directive.Directive.the-variants as directive
 use Rattle.directive.specs.declared.fault.SpduFault.{SpduFault}
 use Rattle.directive.specs.declared.fault.SpduFault.the-variants as fault
-use Rattle.directive.proofs.Fronts.{front-named}
+use Rattle.directive.proofs.Fronts.{front-named, named-ok}
 use Rattle.directive.proofs.Kept.{code, directive-back, fields-kept, name-kept}
 
 -- a layout is as many octets as its directive has
@@ -111,20 +111,6 @@ record Taken (o : List ℕ) (d : Directive) : Type 0 where
   fine : judged 0 (rulesOf name) (fieldsIn name o) ≡ Ok tt
   is : d ≡ directiveOf name (fieldsIn name o)
 
-judged-ok : (r : Result (Unit {0}) SpduFault) (n m : Name) → carry r (λ _. Ok (Some n)) ≡ Ok (Some m) → (r ≡ Ok tt) × (n ≡ m)
-judged-ok (Ok u) n m e = (refl, cc)
-judged-ok (Err f) n m e = absurd (let z : _≡_ {A = ℕ} 0 1 = cc in omega arith)
-
-named-ok : (o : List ℕ) (k : Option Name) (m : Name) → named 0 k o ≡ Ok (Some m) → (k ≡ Some m) × (judged 0 (rulesOf m) (fieldsIn m (take (sizeOf m) o)) ≡ Ok tt)
-named-ok o None m e = absurd (let z : _≡_ {A = ℕ} 0 1 = cc in omega arith)
-named-ok o (Some n) m e = room (leb (sizeOf n) (length o)) e
-  where
-    room : (t : Bool) → cond t (carry (judged 0 (rulesOf n) (fieldsIn n (take (sizeOf n) o))) (λ _. Ok (Some n))) (Err (fault.Cut 0)) ≡ Ok (Some m) → (_≡_ {A = Option Name} (Some n) (Some m)) × (judged 0 (rulesOf m) (fieldsIn m (take (sizeOf m) o)) ≡ Ok tt)
-    room true q =
-        let g = judged-ok (judged 0 (rulesOf n) (fieldsIn n (take (sizeOf n) o))) n m q in
-        (ap Some (g .1), ap (λ k. judged 0 (rulesOf k) (fieldsIn k (take (sizeOf k) o))) (sym (g .1)) ∙ g .0)
-    room false q = absurd (let z : _≡_ {A = ℕ} 0 1 = cc in omega arith)
-
 whole-ok : (o : List ℕ) (k : Option Name) (d : Directive) → whole o k ≡ Ok d → (n : Name) × ((k ≡ Some n) × ((sizeOf n ≡ length o) × (d ≡ directiveOf n (fieldsIn n o))))
 whole-ok o None d e = absurd (let z : _≡_ {A = ℕ} 0 1 = cc in omega arith)
 whole-ok o (Some n) d e = (n, (refl, fit (eqb (sizeOf n) (length o)) refl e))
@@ -141,13 +127,13 @@ taken-at [] (Ok k) d f h =
 taken-at (x ∷ o) (Ok k) d f h =
     let w = whole-ok (x ∷ o) k d h in
     let n = w .0 in
-    let g = named-ok (x ∷ o) (nameOf (x / 32)) n (f ∙ ap Ok (w .1 .0)) in
+    let g = named-ok 0 (x ∷ o) (nameOf (x / 32)) n (f ∙ ap Ok (w .1 .0)) in
     record {
         name = n;
-        first = g .0;
+        first = g .name;
         some = omega arith;
         size = w .1 .1 .0;
-        fine = ap (λ p. judged 0 (rulesOf n) (fieldsIn n p)) (sym (take-all (sizeOf n) (x ∷ o) (omega (arith, w .1 .1 .0)))) ∙ g .1;
+        fine = ap (λ p. judged 0 (rulesOf n) (fieldsIn n p)) (sym (take-all (sizeOf n) (x ∷ o) (omega (arith, w .1 .1 .0)))) ∙ g .fine;
         is = w .1 .1 .1 }
 
 name-code : (k : ℕ) (n : Name) → nameOf k ≡ Some n → k ≡ code n

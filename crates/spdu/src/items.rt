@@ -2,7 +2,7 @@
 ghost use mathlib.Core.Path.{_≡_};
 ghost use lib.ListN.{drop};
 ghost use Rattle.spdu.specs.Item.{afterItem, directive, directives, itemValue, nextItem, nextSeen, reading};
-ghost use Rattle.spdu.specs.Items.{left};
+ghost use Rattle.spdu.specs.Items.{JoinedIn, Sound, left};
 use directive::directive::Name;
 use directive::directive::directive_at;
 use directive::fault::SpduFault;
@@ -46,6 +46,14 @@ fn item_of<'a>(name: Name, octets: &'a [u8]) -> Item<'a>
 impl<'a> Items<'a> {
     /// The items of an SPDU. A fault is told by `next` where it comes, after the items before it.
     pub fn new(unit: &'a [u8]) -> Items<'a>
+        ensures items { λ r. ⌜ left r ≡ reading (now (unit .entry)) ⌝ }
+        ensures joined { λ r. ⌜ JoinedIn (now (unit .entry)) (left r) ⌝ }
+        ensures sound { λ r. ⌜ Sound (left r) ⌝ }
+    {
+        Items::start(unit)
+    }
+
+    fn start(unit: &'a [u8]) -> Items<'a>
         ensures { λ r. ⌜ left r ≡ reading (now (unit .entry)) ⌝ }
     {
         let next = match open_spdu(unit) {
