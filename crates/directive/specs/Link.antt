@@ -46,7 +46,7 @@ codingOf n = cond (eqb n 0) Uncoded (cond (eqb n 1) Ldpc2048 (cond (eqb n 5) Ldp
 abbrev pub codingAllowed : ℕ → Bool
 codingAllowed v = eqb v 0 || (eqb v 1 || (eqb v 5 || eqb v 10))
 
--- a binary32 that is positive and finite
+-- a binary32 without a sign that is neither infinite nor no number
 abbrev pub frequencyAllowed : ℕ → Bool
 frequencyAllowed v = ltb v 0x7f800000
 

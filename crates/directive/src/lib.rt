@@ -1,8 +1,8 @@
 //! The directives of a supervisory unit: link establishment, report request, SET V(R) and source id.
 //!
-//! A directive's fields lie end to end, the name in the first three bits. Reading tries the name, then whether the
-//! octets end inside the directive, then reserved codes and spare bits, then ranges. Reading and writing undo each
-//! other, octet for octet.
+//! The first three bits of a directive are its name, and the name decides the fields that follow. Reading tries the
+//! name, then whether the octets end inside the directive, then reserved codes and spare bits, then ranges. Reading
+//! and writing undo each other, octet for octet.
 pub mod fault;
 pub mod link;
 pub mod rate;

@@ -5,7 +5,7 @@ use Rattle.fault.specs.declared.Layer.the-variants.{Frame}
 use Rattle.frame.specs.declared.fault.FrameFault.{FrameFault}
 use Rattle.frame.specs.declared.fault.FrameFault.the-variants.{Size, Version, Length, NoData, Construction, TooWide, Buffer}
 
--- the number of each, and the first octet of the leftmost field at fault
+-- the number of each, and the octet in which the wrong field starts
 abbrev pub frameFault : FrameFault → Place
 frameFault Size = place 1 Frame 0
 frameFault Version = place 2 Frame 0

@@ -1,4 +1,13 @@
 //! What is said of a line of octets.
+use super::names::construction_name;
+use super::names::id_of_name;
+use super::names::kind_name;
+use super::names::octets_name;
+use super::names::quality_name;
+use super::refusals::print_refusal;
+use inspection::rewriting::frame_is;
+use inspection::summary::Summary;
+use super::units::print_unit;
 use directive::fault::SpduFaultFault;
 use fault::Fault;
 use frame::fault::FrameFaultDisplay;
@@ -7,15 +16,6 @@ use frame::frame::Frame;
 use frame::frame::read_frame;
 use frame::header::Kind;
 use std::io;
-use super::names::construction_name;
-use super::names::id_of_name;
-use super::names::kind_name;
-use super::names::octets_name;
-use super::names::quality_name;
-use super::refusals::print_refusal;
-use super::rewriting::frame_is;
-use super::summary::Summary;
-use super::units::print_unit;
 
 fn print_header(rt: &LibcRuntime, line: u64, frame: Frame<'_>) -> io::Result<()> {
     let header = frame.header;
@@ -29,8 +29,14 @@ fn print_header(rt: &LibcRuntime, line: u64, frame: Frame<'_>) -> io::Result<()>
     let number = header.number;
     let count = frame.payload.len();
     let octets = octets_name(count);
-    print!(rt, "{line}: {kind} frame, {quality}, {construction}, id {id} of the {id_of}, ")?;
-    println!(rt, "channel {channel}, port {port}, number {number}, {count} data {octets}")
+    print!(
+        rt,
+        "{line}: {kind} frame, {quality}, {construction}, id {id} of the {id_of}, "
+    )?;
+    println!(
+        rt,
+        "channel {channel}, port {port}, number {number}, {count} data {octets}"
+    )
 }
 
 fn print_rewritten(rt: &LibcRuntime, frame: Frame<'_>, octets: &[u8]) -> io::Result<()> {
@@ -42,7 +48,12 @@ fn print_rewritten(rt: &LibcRuntime, frame: Frame<'_>, octets: &[u8]) -> io::Res
 }
 
 /// Prints what the octets of a line are, and counts it.
-pub fn print_frame(rt: &LibcRuntime, line: u64, octets: &[u8], summary: &mut Summary) -> io::Result<()> {
+pub fn print_frame(
+    rt: &LibcRuntime,
+    line: u64,
+    octets: &[u8],
+    summary: &mut Summary,
+) -> io::Result<()> {
     let frame = match read_frame(octets) {
         Ok(frame) => frame,
         Err(fault) => {

@@ -1,10 +1,11 @@
 //! What is kept from one character of the recording to the next.
+use super::frames::print_frame;
+use super::totals::print_totals;
+use inspection::summary::Summary;
 use recording::line::Line;
 use recording::line::TextFault;
 use recording::reader::Reader;
 use std::io;
-use super::frames::print_frame;
-use super::summary::Summary;
 
 /// The line under way, and what the lines before it held.
 #[derive(Drop)]
@@ -20,10 +21,16 @@ pub struct Inspector {
 fn print_text_fault(rt: &LibcRuntime, line: u64, fault: TextFault) -> io::Result<()> {
     match fault {
         TextFault::NotHexadecimal(column) => {
-            println!(rt, "{line}: not a line of octets: column {column} is no hexadecimal digit")
+            println!(
+                rt,
+                "{line}: not a line of octets: column {column} is no hexadecimal digit"
+            )
         }
         TextFault::HalfOctet(column) => {
-            println!(rt, "{line}: not a line of octets: the digit in column {column} has no second digit")
+            println!(
+                rt,
+                "{line}: not a line of octets: the digit in column {column} has no second digit"
+            )
         }
     }
 }
@@ -69,6 +76,6 @@ impl Inspector {
         if self.begun {
             self.end_line(rt)?;
         }
-        self.summary.print(rt)
+        print_totals(rt, &self.summary)
     }
 }

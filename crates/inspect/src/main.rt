@@ -8,8 +8,7 @@ mod inspector;
 mod names;
 mod records;
 mod refusals;
-mod rewriting;
-mod summary;
+mod totals;
 mod units;
 
 use inspector::Inspector;

@@ -1,15 +1,15 @@
 //! What is said of reports and directives.
+use super::names::coding_name;
+use super::names::duplex_name;
+use super::names::either;
+use super::names::modulation_name;
+use super::names::yes_or_no;
 use directive::directive::Directive;
 use directive::directive::ReportRequest;
 use directive::link::LinkEstablishment;
 use directive::rate::doubled_rate;
 use spdu::report::Report;
 use std::io;
-use super::names::coding_name;
-use super::names::duplex_name;
-use super::names::either;
-use super::names::modulation_name;
-use super::names::yes_or_no;
 
 /// Prints a report.
 pub fn print_report(rt: &LibcRuntime, report: Report) -> io::Result<()> {
@@ -17,7 +17,10 @@ pub fn print_report(rt: &LibcRuntime, report: Report) -> io::Result<()> {
     let channel = report.channel;
     let counter = report.counter;
     let value = report.value;
-    println!(rt, "   report: {retransmit}, channel {channel}, counter {counter}, value {value}")
+    println!(
+        rt,
+        "   report: {retransmit}, channel {channel}, counter {counter}, value {value}"
+    )
 }
 
 // What a link establishment asks of the other side.
@@ -25,10 +28,17 @@ fn print_wishes(rt: &LibcRuntime, link: LinkEstablishment) -> io::Result<()> {
     let direction = either(link.forward, "forward", "return");
     let query = either(link.query, "query", "demand");
     let response = either(link.rejected, "not accepted", "accepted");
-    let remote = either(link.no_more_data, "remote has no more data", "remote unchanged");
+    let remote = either(
+        link.no_more_data,
+        "remote has no more data",
+        "remote unchanged",
+    );
     let token = either(link.transmit, "token to transmit", "token unchanged");
     let duplex = duplex_name(link.duplex);
-    print!(rt, "   link establishment: {direction}, {query}, {response}, {remote}, {token}, duplex {duplex}, ")
+    print!(
+        rt,
+        "   link establishment: {direction}, {query}, {response}, {remote}, {token}, duplex {duplex}, "
+    )
 }
 
 // How the signal of a link is made.
@@ -39,7 +49,10 @@ fn print_signal(rt: &LibcRuntime, link: LinkEstablishment) -> io::Result<()> {
     let index = link.modulation_index;
     let coding = coding_name(link.coding);
     let noise = link.signal_to_noise;
-    print!(rt, "{polarization}, {coherence}, modulation {modulation} of index {index}, {coding}, signal to noise {noise}, ")
+    print!(
+        rt,
+        "{polarization}, {coherence}, modulation {modulation} of index {index}, {coding}, signal to noise {noise}, "
+    )
 }
 
 // The rate is told in halves, which a decimal shows as they are.
@@ -65,7 +78,10 @@ fn print_request(rt: &LibcRuntime, request: ReportRequest) -> io::Result<()> {
     let channel1 = yes_or_no(request.channel1);
     let tags = request.time_tags;
     let status = request.status;
-    println!(rt, "   report request: channel 0 {channel0}, channel 1 {channel1}, {tags} time tags, status {status}")
+    println!(
+        rt,
+        "   report request: channel 0 {channel0}, channel 1 {channel1}, {tags} time tags, status {status}"
+    )
 }
 
 /// Prints a directive.

@@ -1,4 +1,15 @@
 //! What is said of the supervisory unit in a frame.
+ghost use mathlib.Core.Path.{_≡_};
+ghost use Rattle.spdu.specs.Item.{itemOctets, itemValue};
+use super::hexadecimal::Hexadecimal;
+use super::hexadecimal::HexadecimalDisplay;
+use super::names::octets_name;
+use super::records::print_directive;
+use super::records::print_report;
+use super::refusals::print_refusal;
+use inspection::rewriting::directive_is;
+use inspection::rewriting::report_is;
+use inspection::rewriting::spdu_is;
 use directive::fault::SpduFault;
 use directive::fault::SpduFaultDisplay;
 use directive::fault::SpduFaultFault;
@@ -7,18 +18,13 @@ use spdu::item::Fields;
 use spdu::item::Item;
 use spdu::items::Items;
 use spdu::spdu::check_spdu;
+use spdu::spdu::read_spdu;
 use std::io;
-use super::hexadecimal::Hexadecimal;
-use super::hexadecimal::HexadecimalDisplay;
-use super::names::octets_name;
-use super::records::print_directive;
-use super::records::print_report;
-use super::refusals::print_refusal;
-use super::rewriting::directive_is;
-use super::rewriting::report_is;
 
 // The octets that an item is made of.
-fn octets_of<'a>(item: Item<'a>) -> &'a [u8] {
+fn octets_of<'a>(item: Item<'a>) -> &'a [u8]
+    ensures { λ r. ⌜ now r ≡ itemOctets (itemValue (item .entry)) ⌝ }
+{
     match item {
         Item::Report(octets)
         | Item::Type1(octets)
@@ -62,6 +68,7 @@ fn print_item(rt: &LibcRuntime, item: Item<'_>) -> io::Result<Result<(), SpduFau
             print_directive(rt, directive)?;
             print_rewritten(rt, directive_is(directive, octets_of(item)))?;
         }
+        // Never so, since the reader of items has tried this one.
         Err(fault) => return Ok(Err(fault)),
     }
     Ok(Ok(()))
@@ -89,6 +96,17 @@ fn print_items(rt: &LibcRuntime, unit: &[u8]) -> io::Result<Result<(), SpduFault
     Ok(Ok(()))
 }
 
+// The checker and the reading of whole units go through the unit by themselves, and have to come to the same end.
+fn print_checked(rt: &LibcRuntime, unit: &[u8], told: Result<(), SpduFault>) -> io::Result<()> {
+    if check_spdu(unit) != told {
+        println!(rt, "   checked: a DIFFERENT answer")?;
+    }
+    match read_spdu(unit) {
+        Ok(spdu) => print_rewritten(rt, spdu_is(spdu, unit)),
+        Err(_) => Ok(()),
+    }
+}
+
 /// Prints what a supervisory unit says, and hands on its refusal.
 pub fn print_unit(rt: &LibcRuntime, unit: &[u8]) -> io::Result<Result<(), SpduFault>> {
     let told = print_items(rt, unit)?;
@@ -96,9 +114,6 @@ pub fn print_unit(rt: &LibcRuntime, unit: &[u8]) -> io::Result<Result<(), SpduFa
         print!(rt, "   ")?;
         print_refusal(rt, &fault)?;
     }
-    // The checker goes through the unit by itself, and has to come to the same end.
-    if check_spdu(unit) != told {
-        println!(rt, "   checked: a DIFFERENT answer")?;
-    }
+    print_checked(rt, unit, told)?;
     Ok(told)
 }

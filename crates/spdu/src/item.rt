@@ -27,7 +27,7 @@ pub enum Content<'a> {
     Field(SpduType, &'a [u8]),
 }
 
-/// An item of an SPDU by its kind, with the octets that it is made of.
+/// An item of an SPDU: each case is a kind, and holds the item's octets.
 #[derive(Clone, Copy)]
 pub enum Item<'a> {
     Report(&'a [u8]),

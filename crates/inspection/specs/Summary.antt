@@ -1,11 +1,13 @@
 -- The counts of a recording, line by line.
+use mathlib.Core.Bool.{cond}
 use Prim.Native.Nat.{ℕ, _+_, _-_, _^_, min}
+use lib.Dec.{ltb}
 use lib.ListN.{getD, set, replicate}
 use Rattle.frame.specs.declared.header.Kind.{Kind}
 use Rattle.frame.specs.declared.header.Kind.the-variants.{User, Supervisory}
 use Rattle.frame.specs.declared.header.Quality.{Quality}
 use Rattle.frame.specs.declared.header.Quality.the-variants.{SequenceControlled, Expedited}
-use Rattle.inspect.specs.declared.summary.Summary.{Summary}
+use Rattle.inspection.specs.declared.summary.Summary.{Summary}
 
 -- one more, up to the largest number that 64 bits hold
 abbrev pub more : ℕ → ℕ
@@ -23,7 +25,7 @@ framed Supervisory q s = record { controlled = s .controlled; expedited = s .exp
 
 -- one more refusal of that number; numbers past 20, which no refusal has, change nothing
 abbrev pub refusedOnce : ℕ → Summary → Summary
-refusedOnce n s = record { controlled = s .controlled; expedited = s .expedited; supervisory = s .supervisory; refused = set (s .refused) n (more (getD (s .refused) n 0)); unreadable = s .unreadable }
+refusedOnce n s = record { controlled = s .controlled; expedited = s .expedited; supervisory = s .supervisory; refused = cond (ltb n 21) (set (s .refused) n (more (getD (s .refused) n 0))) (s .refused); unreadable = s .unreadable }
 
 -- one more line that is not octets
 abbrev pub unreadableOnce : Summary → Summary

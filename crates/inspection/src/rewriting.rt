@@ -7,15 +7,21 @@ ghost use Rattle.bits.specs.Codec.{beginning};
 ghost use Rattle.frame.specs.Frame.{encoded, frameValue};
 ghost use Rattle.directive.specs.Directive.{encodedDirective};
 ghost use Rattle.spdu.specs.Report.{encodedReport};
+ghost use Rattle.spdu.specs.Spdu.{encodedSpdu, spduValue};
 use directive::directive::Directive;
 use directive::directive::write_directive;
 use frame::frame::Frame;
 use frame::frame::write_frame;
 use spdu::report::Report;
 use spdu::report::write_report;
+use spdu::spdu::Spdu;
+use spdu::spdu::write_spdu;
 
 /// Room for the longest frame.
 const LONGEST_FRAME: usize = 2048;
+
+/// Room for the longest SPDU.
+const LONGEST_SPDU: usize = 16;
 
 /// Room for a report.
 const REPORT: usize = 2;
@@ -27,10 +33,13 @@ const LONGEST_DIRECTIVE: usize = 12;
 fn has_put<E: Drop>(answer: Result<usize, E>, buffer: &[u8], octets: &[u8]) -> bool
     ensures { λ r. ⌜ Decides r ((answer ≡ Ok (length (now (octets .entry)))) × (now (buffer .entry) ≡ beginning (now (octets .entry)) (now (buffer .entry)))) ⌝ }
 {
-    match answer {
-        Ok(count) => count == octets.len() && buffer.starts_with(octets),
-        Err(_) => false,
+    let Ok(count) = answer else {
+        return false;
+    };
+    if count != octets.len() {
+        return false;
     }
+    buffer.starts_with(octets)
 }
 
 /// Whether a frame is written as these octets.
@@ -57,5 +66,14 @@ pub fn directive_is(directive: Directive, octets: &[u8]) -> bool
 {
     let mut buffer = [0u8; LONGEST_DIRECTIVE];
     let answer = write_directive(directive, &mut buffer);
+    has_put(answer, &buffer, octets)
+}
+
+/// Whether an SPDU is written as these octets.
+pub fn spdu_is(spdu: Spdu<'_>, octets: &[u8]) -> bool
+    ensures { λ r. ⌜ Decides r (encodedSpdu (spduValue (spdu .entry)) ≡ Ok (now (octets .entry))) ⌝ }
+{
+    let mut buffer = [0u8; LONGEST_SPDU];
+    let answer = write_spdu(spdu, &mut buffer);
     has_put(answer, &buffer, octets)
 }
