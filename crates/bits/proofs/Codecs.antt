@@ -48,8 +48,9 @@ pub no-room : {E : Type 0} (small : E) (r : Result (List ℕ) E) (o buffer : Lis
 no-room small r o buffer h short =
     let t : leb (length o) (length buffer) ≡ false = lt-leb (length o) (length buffer) short in
     record {
-        answer = sym (ap (λ x. writeAnswer small x buffer) h ∙ ap (λ b. cond b (Ok (length o)) (Err small)) t);
-        after = sym (ap (λ x. written x buffer) h ∙ ap (λ b. cond b (beginning o buffer) buffer) t) }
+      answer = sym (ap (λ x. writeAnswer small x buffer) h ∙ ap (λ b. cond b (Ok (length o)) (Err small)) t);
+      after = sym (ap (λ x. written x buffer) h ∙ ap (λ b. cond b (beginning o buffer) buffer) t);
+    }
 
 -- what a writing promises that is granted: how many octets there are, and that they come first in the buffer
 pub record Wrote {E : Type 0} (small : E) (r : Result (List ℕ) E) (o buffer : List ℕ) : Type 0 where
@@ -61,9 +62,10 @@ pub wrote : {E : Type 0} (small : E) (r : Result (List ℕ) E) (o buffer : List 
 wrote small r o buffer h room =
     let t : leb (length o) (length buffer) ≡ true = le-leb (length o) (length buffer) room in
     record {
-        answer = sym (ap (λ x. writeAnswer small x buffer) h ∙ ap (λ b. cond b (Ok (length o)) (Err small)) t);
-        after = sym (ap (λ x. written x buffer) h ∙ ap (λ b. cond b (beginning o buffer) buffer) t);
-        first = take-at o (drop (length o) buffer) (length o) refl }
+      answer = sym (ap (λ x. writeAnswer small x buffer) h ∙ ap (λ b. cond b (Ok (length o)) (Err small)) t);
+      after = sym (ap (λ x. written x buffer) h ∙ ap (λ b. cond b (beginning o buffer) buffer) t);
+      first = take-at o (drop (length o) buffer) (length o) refl;
+    }
 
 -- what a writing promises whose octets reading takes: the answer of the putting, and that reading undoes it
 pub record Puts {V E : Type 0} (small : E) (r : Result (List ℕ) E) (read : List ℕ → Result V E) (v : V) (buffer : List ℕ) (x : Result ℕ E) (after : List ℕ) : Type 0 where
@@ -81,9 +83,10 @@ answers-at small n false = refl
 
 pub puts : {V E : Type 0} (small : E) (r : Result (List ℕ) E) (read : List ℕ → Result V E) (v : V) (o buffer : List ℕ) → r ≡ Ok o → read o ≡ Ok v → Puts small r read v buffer (okOr (putAnswer o buffer) small) (put o buffer)
 puts small r read v o buffer h e = record {
-    answer = answers-at small (length o) (leb (length o) (length buffer)) ∙ ap (λ x. writeAnswer small x buffer) (sym h);
-    holds = ap (λ x. written x buffer) (sym h);
-    undone = puts-at small o buffer read v (leb (length o) (length buffer)) e }
+  answer = answers-at small (length o) (leb (length o) (length buffer)) ∙ ap (λ x. writeAnswer small x buffer) (sym h);
+  holds = ap (λ x. written x buffer) (sym h);
+  undone = puts-at small o buffer read v (leb (length o) (length buffer)) e;
+}
 
 -- the same of an answer and a buffer that are known by equations
 pub puts-known : {V E : Type 0} (small : E) (r : Result (List ℕ) E) (read : List ℕ → Result V E) (v : V) (o buffer : List ℕ) (x : Result ℕ E) (after : List ℕ) → r ≡ Ok o → read o ≡ Ok v → x ≡ okOr (putAnswer o buffer) small → after ≡ put o buffer → Puts small r read v buffer x after

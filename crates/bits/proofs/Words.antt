@@ -67,15 +67,15 @@ after-is used word (f ∷ fs) h =
     let ws = widths fs in
     let vs = values fs in
     ⊎-elim
-        (λ yes.
-            cond-true t (assembled-after (used + f .0) (word * 2 ^ f .0 + f .1) fs) None yes
-            ∙ after-is (used + f .0) (word * 2 ^ f .0 + f .1) fs (within used (f .0) (f .1) (2 ^ f .0) h yes)
-            ∙ ap (λ b. cond b (Some ((word * 2 ^ f .0 + f .1) * 2 ^ total ws + join ws vs)) None) (same-test used (f .0) (f .1) (2 ^ f .0) (total ws) (fits ws vs) h yes)
-            ∙ ap (λ n. cond (leb (used + (f .0 + total ws)) 127 && (ltb (f .1) (2 ^ f .0) && fits ws vs)) (Some n) None) (same-number word (f .0) (f .1) (total ws) (join ws vs)))
-        (λ no.
-            cond-false t (assembled-after (used + f .0) (word * 2 ^ f .0 + f .1) fs) None no
-            ∙ sym (cond-false (leb (used + (f .0 + total ws)) 127 && (ltb (f .1) (2 ^ f .0) && fits ws vs)) (Some (word * 2 ^ (f .0 + total ws) + (f .1 * 2 ^ total ws + join ws vs))) None (failed-test used (f .0) (f .1) (2 ^ f .0) (total ws) (fits ws vs) h no)))
-        (cases-bool t)
+    (λ yes.
+    cond-true t (assembled-after (used + f .0) (word * 2 ^ f .0 + f .1) fs) None yes
+    ∙ after-is (used + f .0) (word * 2 ^ f .0 + f .1) fs (within used (f .0) (f .1) (2 ^ f .0) h yes)
+    ∙ ap (λ b. cond b (Some ((word * 2 ^ f .0 + f .1) * 2 ^ total ws + join ws vs)) None) (same-test used (f .0) (f .1) (2 ^ f .0) (total ws) (fits ws vs) h yes)
+    ∙ ap (λ n. cond (leb (used + (f .0 + total ws)) 127 && (ltb (f .1) (2 ^ f .0) && fits ws vs)) (Some n) None) (same-number word (f .0) (f .1) (total ws) (join ws vs)))
+    (λ no.
+    cond-false t (assembled-after (used + f .0) (word * 2 ^ f .0 + f .1) fs) None no
+    ∙ sym (cond-false (leb (used + (f .0 + total ws)) 127 && (ltb (f .1) (2 ^ f .0) && fits ws vs)) (Some (word * 2 ^ (f .0 + total ws) + (f .1 * 2 ^ total ws + join ws vs))) None (failed-test used (f .0) (f .1) (2 ^ f .0) (total ws) (fits ws vs) h no)))
+    (cases-bool t)
 
 pub after-nothing : (fs : List (ℕ × ℕ)) → assembled-after 0 0 fs ≡ assembled fs
 after-nothing fs =
@@ -91,7 +91,7 @@ after-nothing fs =
 mod-first : (m a t n : ℕ) → (a % m * t + n) % m ≡ (a * t + n) % m
 mod-first m a t n =
     let split : a * t + n ≡ a / m * t * m + (a % m * t + n) =
-        ap (λ x. x * t + n) (sym (div-add-mod' a m)) ∙ rw (add-mul (a / m * m) (a % m) t, mul-right-comm (a / m) m t) (omega arith)
+    ap (λ x. x * t + n) (sym (div-add-mod' a m)) ∙ rw (add-mul (a / m * m) (a % m) t, mul-right-comm (a / m) m t) (omega arith)
     in
     sym (ap (λ x. x % m) split ∙ mul-add-mod-self-right (a / m * t) m (a % m * t + n))
 
@@ -125,9 +125,10 @@ pub gathers-on : (word x : ℕ) (o : List ℕ) (n : ℕ) → Gathering word (x �
 gathers-on word x o n g h =
     let t = total (octets (length o)) in
     let put : bitOr (word * 256 % 2 ^ 128) x ≡ (word * 256 + x) % 2 ^ 128 = put-below 120 8 word x h in
-    let wider : 2 ^ (8 + t) ≡ 256 * 2 ^ t = pow-add 2 8 t in
-    (rw put (mod-below (word * 256 + x) (2 ^ 128) (omega arith)),
-    ap (λ k. (k * 2 ^ t + number o) % 2 ^ 128) put
-    ∙ octet-below (2 ^ 128) word x (2 ^ t) (number o)
-    ∙ ap (λ p. (word * p + (x * 2 ^ t + number o)) % 2 ^ 128) (sym wider)
-    ∙ g .1)
+    let wider : 2 ^ (8 + t) ≡ 256 * 2 ^ t = pow-add 2 8 t in (
+      rw put (mod-below (word * 256 + x) (2 ^ 128) (omega arith)),
+      ap (λ k. (k * 2 ^ t + number o) % 2 ^ 128) put
+          ∙ octet-below (2 ^ 128) word x (2 ^ t) (number o)
+          ∙ ap (λ p. (word * p + (x * 2 ^ t + number o)) % 2 ^ 128) (sym wider)
+          ∙ g .1,
+    )

@@ -90,6 +90,7 @@ never-none at x o e = by (nameOf (x / 32)) e
     room n true (Ok u) q = let z : _≡_ {A = ℕ} 0 1 = cc in omega arith
     room n true (Err f) q = let z : _≡_ {A = ℕ} 0 1 = cc in omega arith
     room n false r q = let z : _≡_ {A = ℕ} 0 1 = cc in omega arith
+
     by : (k : Option Name) → named at k (x ∷ o) ≡ Ok None → ⊥
     by None q = let z : _≡_ {A = ℕ} 0 1 = cc in omega arith
     by (Some n) q = room n (leb (sizeOf n) (length (x ∷ o))) (judged at (rulesOf n) (fieldsIn n (take (sizeOf n) (x ∷ o)))) q
@@ -120,10 +121,10 @@ found-reads at x o n e =
     let first : getD p 0 0 ≡ x = getD-take (sizeOf n) (x ∷ o) 0 0 (size-positive n) in
     let fine : judged 0 rules fs ≡ Ok tt = anywhere at (leftmost (λ r. r .code) rules 0 fs) (leftmost (λ r. r .range) rules 0 fs) (g .fine) in
     let again : front 0 p ≡ Ok (Some n) =
-        front-named 0 p (Some n) (omega (arith, size, size-positive n)) (sym (ap (λ k. nameOf (k / 32)) first ∙ g .name))
-        ∙ ap (λ t. cond t (carry (judged 0 rules (fieldsIn n (take (sizeOf n) p))) (λ _. Ok (Some n))) (Err (fault.Cut 0))) (le-leb (sizeOf n) (length p) (omega (arith, size)))
-        ∙ ap (λ q. carry (judged 0 rules (fieldsIn n q)) (λ _. Ok (Some n))) (take-all (sizeOf n) p (omega (arith, size)))
-        ∙ ap (λ r. carry r (λ _. Ok (Some n))) fine
+    front-named 0 p (Some n) (omega (arith, size, size-positive n)) (sym (ap (λ k. nameOf (k / 32)) first ∙ g .name))
+    ∙ ap (λ t. cond t (carry (judged 0 rules (fieldsIn n (take (sizeOf n) p))) (λ _. Ok (Some n))) (Err (fault.Cut 0))) (le-leb (sizeOf n) (length p) (omega (arith, size)))
+    ∙ ap (λ q. carry (judged 0 rules (fieldsIn n q)) (λ _. Ok (Some n))) (take-all (sizeOf n) p (omega (arith, size)))
+    ∙ ap (λ r. carry r (λ _. Ok (Some n))) fine
     in
     ap (λ r. isOk (carry r (whole p))) again
     ∙ ap (λ t. isOk (cond t (Ok (directiveOf n fs)) (Err fault.Length))) (eq-eqb (sizeOf n) (length p) (sym size))

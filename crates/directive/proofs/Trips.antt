@@ -79,15 +79,15 @@ own-octets d h =
     let first : Some n ≡ nameOf (getD o 0 0 / 32) = sym (ap nameOf (first-octet n w ∙ ap (λ fs. getD fs 0 0) fields ∙ code-first d) ∙ name-back n) in
     let values : fieldsIn n o ≡ fieldsFor d = ap (cut (layout rules)) again ∙ fields in
     let at-front : front 0 o ≡ carry (judged 0 rules (fieldsFor d)) (λ _. Ok (Some n)) =
-        front-named 0 o (Some n) (some-octet n w) first
-        ∙ ap (λ t. cond t (carry (judged 0 rules (fieldsIn n (take (sizeOf n) o))) (λ _. Ok (Some n))) (Err (fault.Cut 0))) (le-leb (sizeOf n) (length o) (omega (arith, size)))
-        ∙ ap (λ p. carry (judged 0 rules (fieldsIn n p)) (λ _. Ok (Some n))) (take-all (sizeOf n) o (omega (arith, size)))
-        ∙ ap (λ fs. carry (judged 0 rules fs) (λ _. Ok (Some n))) values
+    front-named 0 o (Some n) (some-octet n w) first
+    ∙ ap (λ t. cond t (carry (judged 0 rules (fieldsIn n (take (sizeOf n) o))) (λ _. Ok (Some n))) (Err (fault.Cut 0))) (le-leb (sizeOf n) (length o) (omega (arith, size)))
+    ∙ ap (λ p. carry (judged 0 rules (fieldsIn n p)) (λ _. Ok (Some n))) (take-all (sizeOf n) o (omega (arith, size)))
+    ∙ ap (λ fs. carry (judged 0 rules fs) (λ _. Ok (Some n))) values
     in
     let all : whole o (Some n) ≡ Ok d =
-        ap (λ t. cond t (Ok (directiveOf n (fieldsIn n o))) (Err fault.Length)) (eq-eqb (sizeOf n) (length o) (sym size))
-        ∙ ap (λ fs. Ok (directiveOf n fs)) values
-        ∙ ap Ok (directive-back d)
+    ap (λ t. cond t (Ok (directiveOf n (fieldsIn n o))) (Err fault.Length)) (eq-eqb (sizeOf n) (length o) (sym size))
+    ∙ ap (λ fs. Ok (directiveOf n fs)) values
+    ∙ ap Ok (directive-back d)
     in
     ap (λ r. carry r (whole o)) at-front ∙ through o n d (judged 0 rules (fieldsFor d)) all
 
@@ -129,12 +129,13 @@ taken-at (x ∷ o) (Ok k) d f h =
     let n = w .0 in
     let g = named-ok 0 (x ∷ o) (nameOf (x / 32)) n (f ∙ ap Ok (w .1 .0)) in
     record {
-        name = n;
-        first = g .name;
-        some = omega arith;
-        size = w .1 .1 .0;
-        fine = ap (λ p. judged 0 (rulesOf n) (fieldsIn n p)) (sym (take-all (sizeOf n) (x ∷ o) (omega (arith, w .1 .1 .0)))) ∙ g .fine;
-        is = w .1 .1 .1 }
+      name = n;
+      first = g .name;
+      some = omega arith;
+      size = w .1 .1 .0;
+      fine = ap (λ p. judged 0 (rulesOf n) (fieldsIn n p)) (sym (take-all (sizeOf n) (x ∷ o) (omega (arith, w .1 .1 .0)))) ∙ g .fine;
+      is = w .1 .1 .1;
+    }
 
 name-code : (k : ℕ) (n : Name) → nameOf k ≡ Some n → k ≡ code n
 name-code k n h = grind (arith, tells)
@@ -161,7 +162,7 @@ writing-undoes o d t r =
     let word : directiveWord d ≡ w = ap (λ m. join (layout (rulesOf m)) (fieldsFor d)) name ∙ ap (join (layout rules)) fields ∙ join-undoes-cut (layout rules) w below in
     let fit : directiveFits d ≡ true = ap (λ m. fits (layout (rulesOf m)) (fieldsFor d)) name ∙ ap (fits (layout rules)) fields ∙ cut-fits (layout rules) w in
     let all : directiveOctets d ≡ o =
-        ap (λ m. cut (octets (sizeOf m)) (directiveWord d)) name ∙ ap (λ m. cut (octets m) (directiveWord d)) (k .size) ∙ ap (cut (octets (length o))) word ∙ cut-number o t
+    ap (λ m. cut (octets (sizeOf m)) (directiveWord d)) name ∙ ap (λ m. cut (octets m) (directiveWord d)) (k .size) ∙ ap (cut (octets (length o))) word ∙ cut-number o t
     in
     ap (λ b. encoding fault.TooWide b (directiveOctets d) (readDirective (directiveOctets d))) fit
     ∙ ap (λ p. encoding fault.TooWide true p (readDirective p)) all

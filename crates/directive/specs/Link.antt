@@ -67,17 +67,18 @@ linkFields l =
 
 abbrev pub linkOf : List ℕ → LinkEstablishment
 linkOf fs = record {
-    forward = eqb (getD fs 2 0) 1;
-    query = eqb (getD fs 3 0) 1;
-    rejected = eqb (getD fs 4 0) 1;
-    «no_more_data» = eqb (getD fs 5 0) 1;
-    transmit = eqb (getD fs 6 0) 1;
-    duplex = duplexOf (getD fs 7 0);
-    «right_hand» = eqb (getD fs 8 0) 1;
-    «non_coherent» = eqb (getD fs 9 0) 1;
-    modulation = modulationOf (getD fs 11 0);
-    «modulation_index» = getD fs 12 0;
-    coding = codingOf (getD fs 14 0);
-    «signal_to_noise» = getD fs 16 0;
-    «symbol_rate» = getD fs 18 0;
-    frequency = getD fs 19 0 }
+  forward = eqb (getD fs 2 0) 1;
+  query = eqb (getD fs 3 0) 1;
+  rejected = eqb (getD fs 4 0) 1;
+  «no_more_data» = eqb (getD fs 5 0) 1;
+  transmit = eqb (getD fs 6 0) 1;
+  duplex = duplexOf (getD fs 7 0);
+  «right_hand» = eqb (getD fs 8 0) 1;
+  «non_coherent» = eqb (getD fs 9 0) 1;
+  modulation = modulationOf (getD fs 11 0);
+  «modulation_index» = getD fs 12 0;
+  coding = codingOf (getD fs 14 0);
+  «signal_to_noise» = getD fs 16 0;
+  «symbol_rate» = getD fs 18 0;
+  frequency = getD fs 19 0;
+}

@@ -12,17 +12,17 @@ ghost use Rattle.std.specs.Vec.{made};
 ghost use Rattle.std.specs.declared.option.Option.the-variants.{Some, None};
 ghost use Rattle.std.specs.declared.result.Result.the-variants.{Ok, Err};
 ghost use Rattle.directive.specs.declared.fault.SpduFault.the-variants.{Reserved};
-use bits::assemble;
-use bits::field;
-use bits::octets_of;
-use bits::put_first;
-use bits::word;
 use super::fault::SpduFault;
 use super::link::LinkEstablishment;
 use super::link::bit;
 use super::link::judge_link;
 use super::link::link_of;
 use super::link::link_word;
+use bits::assemble;
+use bits::field;
+use bits::octets_of;
+use bits::put_first;
+use bits::word;
 
 /// The name of a directive.
 #[derive(Clone, Copy, PartialEq, Eq, Debug)]
@@ -118,13 +118,15 @@ fn directive_word(directive: Directive) -> Option<u128>
 {
     match directive {
         Directive::LinkEstablishment(link) => link_word(link),
-        Directive::ReportRequest(request) => assemble(&[
-            (3, 1),
-            (1, bit(request.channel0)),
-            (1, bit(request.channel1)),
-            (6, request.time_tags as u128),
-            (5, request.status as u128),
-        ]),
+        Directive::ReportRequest(request) => assemble(
+            &[
+                (3, 1),
+                (1, bit(request.channel0)),
+                (1, bit(request.channel1)),
+                (6, request.time_tags as u128),
+                (5, request.status as u128),
+            ],
+        ),
         Directive::SetVr(number) => assemble(&[(3, 2), (5, 0), (8, number as u128)]),
         Directive::SourceId(id) => assemble(&[(3, 3), (13, 0), (16, id as u128)]),
     }
@@ -134,7 +136,11 @@ fn directive_word(directive: Directive) -> Option<u128>
 fn judge_spare(bits: u128, at: usize) -> Result<(), SpduFault>
     ensures { λ r. ⌜ r ≡ cond (eqb bits 0) (Ok tt) (Err (Reserved at)) ⌝ }
 {
-    if bits == 0 { Ok(()) } else { Err(SpduFault::Reserved(at)) }
+    if bits == 0 {
+        Ok(())
+    } else {
+        Err(SpduFault::Reserved(at))
+    }
 }
 
 // What the fields of a directive answer that starts at the octet `at` of its unit.

@@ -52,14 +52,16 @@ pub impl Fault for SpduFault as SpduFaultFault {
 
 pub impl fmt::Display for SpduFault as SpduFaultDisplay {
     fn fmt<W: fmt::Write>(&self, f: &mut fmt::Formatter<W>) -> fmt::Result {
-        f.write_str(match self {
-            SpduFault::Length => "the unit is empty or of wrong length",
-            SpduFault::Kind => "the kind of unit is reserved",
-            SpduFault::Cut(_) => "the data field ends inside a directive",
-            SpduFault::Reserved(_) => "a name or a code is reserved, or a spare bit is set",
-            SpduFault::Range(_) => "a symbol rate or a frequency is out of range",
-            SpduFault::TooWide => "a value is wider than its field",
-            SpduFault::Buffer => "the buffer is too small",
-        })
+        f.write_str(
+            match self {
+                SpduFault::Length => "the unit is empty or of wrong length",
+                SpduFault::Kind => "the kind of unit is reserved",
+                SpduFault::Cut(_) => "the data field ends inside a directive",
+                SpduFault::Reserved(_) => "a name or a code is reserved, or a spare bit is set",
+                SpduFault::Range(_) => "a symbol rate or a frequency is out of range",
+                SpduFault::TooWide => "a value is wider than its field",
+                SpduFault::Buffer => "the buffer is too small",
+            },
+        )
     }
 }

@@ -6,10 +6,10 @@ ghost use Rattle.bits.specs.Layout.{cut, fits, join};
 ghost use Rattle.directive.specs.Link.{codingAllowed, codingCode, codingOf, duplexCode, duplexOf, flag, linkFields, linkOf, linkRules, modulationCode, modulationOf};
 ghost use Rattle.directive.specs.Rule.{judged, layout};
 ghost use Rattle.std.specs.declared.option.Option.the-variants.{Some, None};
-use bits::assemble;
-use bits::field;
 use super::fault::SpduFault;
 use super::rate::rate_is_allowed;
+use bits::assemble;
+use bits::field;
 
 /// In which directions the responder may communicate.
 #[derive(Clone, Copy, PartialEq, Eq, Debug)]
@@ -86,7 +86,11 @@ fn duplex_of(bits: u128) -> Duplex
 fn modulation_of(bits: u128) -> Modulation
     ensures { λ r. ⌜ r ≡ modulationOf bits ⌝ }
 {
-    if bits == 0 { Modulation::BiPhaseL } else { Modulation::Gmsk }
+    if bits == 0 {
+        Modulation::BiPhaseL
+    } else {
+        Modulation::Gmsk
+    }
 }
 
 fn coding_of(bits: u128) -> Coding
@@ -185,26 +189,28 @@ pub(crate) fn link_of(word: u128) -> LinkEstablishment
 pub(crate) fn link_word(link: LinkEstablishment) -> Option<u128>
     ensures { λ r. ⌜ r ≡ cond (fits (layout linkRules) (linkFields link)) (Some (join (layout linkRules) (linkFields link))) None ⌝ }
 {
-    assemble(&[
-        (3, 0),
-        (1, 0),
-        (1, bit(link.forward)),
-        (1, bit(link.query)),
-        (1, bit(link.rejected)),
-        (1, bit(link.no_more_data)),
-        (1, bit(link.transmit)),
-        (3, duplex_code(link.duplex)),
-        (1, bit(link.right_hand)),
-        (1, bit(link.non_coherent)),
-        (2, 0),
-        (4, modulation_code(link.modulation)),
-        (3, link.modulation_index as u128),
-        (1, 0),
-        (6, coding_code(link.coding)),
-        (2, 0),
-        (8, link.signal_to_noise as u128),
-        (8, 0),
-        (16, link.symbol_rate as u128),
-        (32, link.frequency as u128),
-    ])
+    assemble(
+        &[
+            (3, 0),
+            (1, 0),
+            (1, bit(link.forward)),
+            (1, bit(link.query)),
+            (1, bit(link.rejected)),
+            (1, bit(link.no_more_data)),
+            (1, bit(link.transmit)),
+            (3, duplex_code(link.duplex)),
+            (1, bit(link.right_hand)),
+            (1, bit(link.non_coherent)),
+            (2, 0),
+            (4, modulation_code(link.modulation)),
+            (3, link.modulation_index as u128),
+            (1, 0),
+            (6, coding_code(link.coding)),
+            (2, 0),
+            (8, link.signal_to_noise as u128),
+            (8, 0),
+            (16, link.symbol_rate as u128),
+            (32, link.frequency as u128),
+        ],
+    )
 }

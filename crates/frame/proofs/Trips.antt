@@ -161,10 +161,10 @@ named a b c d e rest f bytes r =
     let size : length (f .payload) ≡ length rest = ap length (t .data-field) in
     let same : fieldsOf f ≡ cut headerLayout w = fields-kept w (length (f .payload) + 4) (f .header) (t .header) (t .version) (omega (arith, size, t .last)) in
     let whole : frameOctets f ≡ a ∷ b ∷ c ∷ d ∷ e ∷ rest =
-        ap (λ fs. cut (octets 5) (join headerLayout fs) ++ f .payload) same
-        ∙ ap (λ v. cut (octets 5) v ++ f .payload) (join-undoes-cut headerLayout w (join-below (octets 5) os narrow))
-        ∙ ap (λ v. v ++ f .payload) (cut-undoes-join (octets 5) os narrow)
-        ∙ ap (λ p. a ∷ b ∷ c ∷ d ∷ e ∷ p) (t .data-field)
+    ap (λ fs. cut (octets 5) (join headerLayout fs) ++ f .payload) same
+    ∙ ap (λ v. cut (octets 5) v ++ f .payload) (join-undoes-cut headerLayout w (join-below (octets 5) os narrow))
+    ∙ ap (λ v. v ++ f .payload) (cut-undoes-join (octets 5) os narrow)
+    ∙ ap (λ p. a ∷ b ∷ c ∷ d ∷ e ∷ p) (t .data-field)
     in
     ap (λ t. encoding fault.TooWide t (frameOctets f) (readFrame (frameOctets f))) (ap (fits headerLayout) same ∙ cut-fits headerLayout w)
     ∙ ap (λ o. encoding fault.TooWide true o (readFrame o)) whole
@@ -224,4 +224,3 @@ encodes f w n a = encodes-as f w ∙ ap (λ t. decided f t (fine f)) (lt-ltb 0 (
 pub undone : (o : List ℕ) (r : Result Frame FrameFault) → ((i : ℕ) → getD o i 0 < 256) → seen r ≡ readFrame o → made r (λ f. encoded (frameValue f) ≡ Ok o)
 undone o (Ok f) t e = writing-undoes o (frameValue f) t (sym e)
 undone o (Err x) t e = tt
-

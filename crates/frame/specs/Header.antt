@@ -70,14 +70,15 @@ headerFields h last =
 
 abbrev pub headerWith : List ℕ → Construction → Header
 headerWith fs c = record {
-    quality = qualityOf (getD fs 1 0);
-    kind = kindOf (getD fs 2 0);
-    construction = c;
-    id = getD fs 4 0;
-    channel = getD fs 5 0;
-    port = getD fs 6 0;
-    «id_of» = idOf (getD fs 7 0);
-    number = getD fs 9 0 }
+  quality = qualityOf (getD fs 1 0);
+  kind = kindOf (getD fs 2 0);
+  construction = c;
+  id = getD fs 4 0;
+  channel = getD fs 5 0;
+  port = getD fs 6 0;
+  «id_of» = idOf (getD fs 7 0);
+  number = getD fs 9 0;
+}
 
 -- the header with these fields and this construction, if there is one and the kind allows it
 abbrev pub withConstruction : List ℕ → Option Construction → Option Header

@@ -52,14 +52,17 @@ pub impl Fault for FrameFault as FrameFaultFault {
 
 pub impl fmt::Display for FrameFault as FrameFaultDisplay {
     fn fmt<W: fmt::Write>(&self, f: &mut fmt::Formatter<W>) -> fmt::Result {
-        f.write_str(match self {
-            FrameFault::Size => "a frame has 5 to 2,048 octets",
-            FrameFault::Version => "the version is not binary 10",
-            FrameFault::Length => "the length field does not tell how many octets there are",
-            FrameFault::NoData => "the data field has no octet",
-            FrameFault::Construction => "the construction is reserved, or not one that the kind of frame allows",
-            FrameFault::TooWide => "a value is wider than its field",
-            FrameFault::Buffer => "the buffer is too small",
-        })
+        f.write_str(
+            match self {
+                FrameFault::Size => "a frame has 5 to 2,048 octets",
+                FrameFault::Version => "the version is not binary 10",
+                FrameFault::Length => "the length field does not tell how many octets there are",
+                FrameFault::NoData => "the data field has no octet",
+                FrameFault::Construction =>
+                    "the construction is reserved, or not one that the kind of frame allows",
+                FrameFault::TooWide => "a value is wider than its field",
+                FrameFault::Buffer => "the buffer is too small",
+            },
+        )
     }
 }

@@ -7,14 +7,14 @@ ghost use Rattle.bits.specs.Codec.{writeAnswer, written};
 ghost use Rattle.bits.specs.Layout.{cut};
 ghost use Rattle.frame.specs.Header.{headerLayout};
 ghost use Rattle.frame.specs.Frame.{encoded, frameValue, readFields, readFrame, seen};
-use bits::field;
-use bits::octets_of;
-use bits::word;
 use super::fault::FrameFault;
 use super::header::Header;
 use super::header::header_of;
 use super::header::header_word;
 use super::header::is_allowed;
+use bits::field;
+use bits::octets_of;
+use bits::word;
 
 /// A frame: its header, and its data field.
 #[derive(Clone, Copy)]

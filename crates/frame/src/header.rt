@@ -61,13 +61,21 @@ pub struct Header {
 fn quality_of(bit: u128) -> Quality
     ensures { λ r. ⌜ r ≡ qualityOf bit ⌝ }
 {
-    if bit == 0 { Quality::SequenceControlled } else { Quality::Expedited }
+    if bit == 0 {
+        Quality::SequenceControlled
+    } else {
+        Quality::Expedited
+    }
 }
 
 fn kind_of(bit: u128) -> Kind
     ensures { λ r. ⌜ r ≡ kindOf bit ⌝ }
 {
-    if bit == 0 { Kind::User } else { Kind::Supervisory }
+    if bit == 0 {
+        Kind::User
+    } else {
+        Kind::Supervisory
+    }
 }
 
 fn construction_of(bits: u128) -> Option<Construction>
@@ -84,7 +92,11 @@ fn construction_of(bits: u128) -> Option<Construction>
 fn id_of(bit: u128) -> IdOf
     ensures { λ r. ⌜ r ≡ idOf bit ⌝ }
 {
-    if bit == 0 { IdOf::Source } else { IdOf::Destination }
+    if bit == 0 {
+        IdOf::Source
+    } else {
+        IdOf::Destination
+    }
 }
 
 // The discriminants count from 0, and binary 10 is reserved.
@@ -136,16 +148,18 @@ pub fn header_of(word: u128) -> Option<Header>
 pub fn header_word(header: Header, last: u128) -> Option<u128>
     ensures { λ r. ⌜ r ≡ cond (fits headerLayout (headerFields header last)) (Some (join headerLayout (headerFields header last))) None ⌝ }
 {
-    assemble(&[
-        (2, 2),
-        (1, header.quality as u128),
-        (1, header.kind as u128),
-        (2, construction_code(header.construction)),
-        (10, header.id as u128),
-        (1, header.channel as u128),
-        (3, header.port as u128),
-        (1, header.id_of as u128),
-        (11, last),
-        (8, header.number as u128),
-    ])
+    assemble(
+        &[
+            (2, 2),
+            (1, header.quality as u128),
+            (1, header.kind as u128),
+            (2, construction_code(header.construction)),
+            (10, header.id as u128),
+            (1, header.channel as u128),
+            (3, header.port as u128),
+            (1, header.id_of as u128),
+            (11, last),
+            (8, header.number as u128),
+        ],
+    )
 }

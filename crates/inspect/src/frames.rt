@@ -5,8 +5,6 @@ use super::names::kind_name;
 use super::names::octets_name;
 use super::names::quality_name;
 use super::refusals::print_refusal;
-use inspection::rewriting::frame_is;
-use inspection::summary::Summary;
 use super::units::print_unit;
 use directive::fault::SpduFaultFault;
 use fault::Fault;
@@ -15,6 +13,8 @@ use frame::fault::FrameFaultFault;
 use frame::frame::Frame;
 use frame::frame::read_frame;
 use frame::header::Kind;
+use inspection::rewriting::frame_is;
+use inspection::summary::Summary;
 use std::io;
 
 fn print_header(rt: &LibcRuntime, line: u64, frame: Frame<'_>) -> io::Result<()> {

@@ -85,6 +85,7 @@ field-opening x o (Some t) told h = by (eqb told (length o) && enough t (length 
     sound Type2 = (refl, tt)
     sound Type3 = (refl, tt)
     sound Type5 = directives-sound 0 1 o
+
     by : (b : Bool) → Opening (x ∷ o) (cond b (Ok (holds-field t o)) (Err fault.Length))
     by true = holds (holds-field t o) (sym h) (sound t)
     by false = refused fault.Length

@@ -33,9 +33,9 @@ finds at (x ∷ o) n e =
     let place : at + 1 + (sizeOf n - 1) ≡ at + sizeOf n = omega (arith, size-positive n) in
     ap (λ r. begins r (x ∷ o) (λ m. directives (sizeOf m - 1) (at + 1) o)) e
     ∙ ap (preceded (directive n (take (sizeOf n) (x ∷ o))))
-        (skips (sizeOf n - 1) (at + 1) o
-        ∙ ap (λ a. directives 0 a (drop (sizeOf n - 1) o)) place
-        ∙ ap (λ k. directives 0 (at + sizeOf n) (drop k (x ∷ o))) (sym more))
+    (skips (sizeOf n - 1) (at + 1) o
+    ∙ ap (λ a. directives 0 a (drop (sizeOf n - 1) o)) place
+    ∙ ap (λ k. directives 0 (at + sizeOf n) (drop k (x ∷ o))) (sym more))
 
 -- the same in a unit
 pub finds-in : (at : ℕ) (unit : List ℕ) (n : Name) → front at (drop at unit) ≡ Ok (Some n) → directives 0 at (drop at unit) ≡ preceded (directive n (take (sizeOf n) (drop at unit))) (directives 0 (at + sizeOf n) (drop (at + sizeOf n) unit))

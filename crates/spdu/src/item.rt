@@ -1,11 +1,11 @@
 //! What an SPDU holds, and the items that its reader hands out.
 ghost use mathlib.Core.Path.{_≡_};
 ghost use Rattle.spdu.specs.Item.{contentSeen, directiveFields, enough, fieldsSeen, itemFields, itemValue, opened, opensField, typeOf};
+use super::report::Report;
+use super::report::read_report;
 use directive::directive::Directive;
 use directive::directive::read_directive;
 use directive::fault::SpduFault;
-use super::report::Report;
-use super::report::read_report;
 
 /// The types of a variable SPDU that are not reserved.
 #[derive(Clone, Copy, PartialEq, Eq, Debug)]
@@ -61,7 +61,9 @@ impl<'a> Item<'a> {
     {
         match self {
             Item::Report(octets) => Ok(Fields::Report(read_report(octets)?)),
-            Item::Type1(octets) | Item::Type2(octets) | Item::Type3(octets) => Ok(Fields::Octets(octets)),
+            Item::Type1(octets) | Item::Type2(octets) | Item::Type3(octets) => Ok(Fields::Octets(
+                octets,
+            )),
             Item::LinkEstablishment(octets) => directive_fields(octets),
             Item::ReportRequest(octets) => directive_fields(octets),
             Item::SetVr(octets) => directive_fields(octets),
@@ -93,7 +95,11 @@ fn is_enough(kind: SpduType, count: usize) -> bool
 }
 
 // The data field of a type, if its length is the one that the header tells.
-fn open_field<'a>(kind: Option<SpduType>, told: u8, field: &'a [u8]) -> Result<Content<'a>, SpduFault>
+fn open_field<'a>(
+    kind: Option<SpduType>,
+    told: u8,
+    field: &'a [u8],
+) -> Result<Content<'a>, SpduFault>
     ensures { λ r. ⌜ contentSeen r ≡ opensField kind told (now (field .entry)) ⌝ }
 {
     let Some(kind) = kind else {

@@ -3,13 +3,13 @@ ghost use mathlib.Core.Path.{_≡_};
 ghost use lib.ListN.{drop};
 ghost use Rattle.spdu.specs.Item.{afterItem, directive, directives, itemValue, nextItem, nextSeen, reading};
 ghost use Rattle.spdu.specs.Items.{JoinedIn, Sound, left};
-use directive::directive::Name;
-use directive::directive::directive_at;
-use directive::fault::SpduFault;
 use super::item::Content;
 use super::item::Item;
 use super::item::SpduType;
 use super::item::open_spdu;
+use directive::directive::Name;
+use directive::directive::directive_at;
+use directive::fault::SpduFault;
 
 // What comes next.
 #[derive(Clone, Copy)]

@@ -47,14 +47,16 @@ fn report_of(word: u128) -> Result<Report, SpduFault>
 fn report_word(report: Report) -> Option<u128>
     ensures { λ r. ⌜ r ≡ cond (fits reportLayout (reportFields report)) (Some (join reportLayout (reportFields report))) None ⌝ }
 {
-    assemble(&[
-        (2, 2),
-        (1, report.retransmit as u128),
-        (1, report.channel as u128),
-        (1, 0),
-        (3, report.counter as u128),
-        (8, report.value as u128),
-    ])
+    assemble(
+        &[
+            (2, 2),
+            (1, report.retransmit as u128),
+            (1, report.channel as u128),
+            (1, 0),
+            (3, report.counter as u128),
+            (8, report.value as u128),
+        ],
+    )
 }
 
 /// The report that these octets are.

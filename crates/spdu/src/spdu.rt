@@ -12,9 +12,6 @@ ghost use Rattle.std.specs.Slices.{found};
 ghost use Rattle.std.specs.Vec.{made};
 ghost use Rattle.std.specs.declared.option.Option.the-variants.{Some, None};
 ghost use Rattle.std.specs.declared.result.Result.the-variants.{Ok};
-use bits::assemble;
-use bits::put_first;
-use directive::fault::SpduFault;
 use super::item::Content;
 use super::item::SpduType;
 use super::item::open_spdu;
@@ -22,6 +19,9 @@ use super::items::Items;
 use super::report::Report;
 use super::report::read_report;
 use super::report::write_report;
+use bits::assemble;
+use bits::put_first;
+use directive::fault::SpduFault;
 
 /// An SPDU: a report, or the data field of a type.
 #[derive(Clone, Copy)]

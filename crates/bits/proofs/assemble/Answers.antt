@@ -21,9 +21,10 @@ returns-then-width-used c =
     let used = c .loop-field .used in
     let f = getD fs i (0, 0) in
     let wide : (127 - used < f .0) ⊎ (2 ^ f .0 ≤ f .1) =
-        elim (c .then-width-used .came) [
-            then-width-used·by·then-width-used w ↦ inl (w .if-width-used .taken)
-            | then-width-used·by·else-width-used·then-value-width w ↦ inr (rw (one-shl (f .0) 128 (omega (arith, w .if-width-used .left))) at (w .if-value-width .taken)) ]
+    elim (c .then-width-used .came) [
+      | then-width-used·by·then-width-used w ↦ inl (w .if-width-used .taken)
+      | then-width-used·by·else-width-used·then-value-width w ↦ inr (rw (one-shl (f .0) 128 (omega (arith, w .if-width-used .left))) at (w .if-value-width .taken))
+    ]
     in
     refuses used (c .loop-field .word) f (drop (i + 1) fs) wide
     ∙ ap (assembled-after used (c .loop-field .word)) (sym (drop-more fs i (0, 0) (c .loop-field-test .taken)))

@@ -36,7 +36,7 @@ returns c =
     let read : readDirective (directiveOctets d) ≡ Ok (c .in-Continue-read-directive .field-0) = ap readDirective (sym o) ∙ sym (c .read-directive .ensures .answer) ∙ c .in-Continue-read-directive .was tt in
     let encoded : encodedDirective d ≡ Ok (directiveOctets d) = encodes fault.TooWide (directiveFits d) (directiveOctets d) (readDirective (directiveOctets d)) (c .in-Continue-read-directive .field-0) (told .0) read in
     let w = puts-known fault.Buffer (encodedDirective d) readDirective d (directiveOctets d) (c .args .buffer .now) (c .ok-or .result) (c .put-first .last .buffer) encoded (reading-undoes d (directiveOctets d) encoded)
-        (c .ok-or .ensures .value ∙ ap (λ x. okOr x fault.Buffer) (c .put-first .ensures .answer) ∙ ap (λ p. okOr (putAnswer p (c .args .buffer .now)) fault.Buffer) o)
-        (c .put-first .ensures .after ∙ ap (λ p. put p (c .args .buffer .now)) o)
+    (c .ok-or .ensures .value ∙ ap (λ x. okOr x fault.Buffer) (c .put-first .ensures .answer) ∙ ap (λ p. okOr (putAnswer p (c .args .buffer .now)) fault.Buffer) o)
+    (c .put-first .ensures .after ∙ ap (λ p. put p (c .args .buffer .now)) o)
     in
     record { answer = w .answer; after = w .holds; undone = w .undone }

@@ -16,4 +16,4 @@ returns c =
     let e : bitAnd (f / 2 ^ 10) 31 ≡ f / 2 ^ 10 % 2 ^ 5 = and-mask (f / 2 ^ 10) 5 in
     let m : bitAnd f 1023 ≡ f % 2 ^ 10 = and-mask f 10 in
     let whole : (1024 + f % 2 ^ 10) * 2 ^ (f / 2 ^ 10 % 2 ^ 5 - 8) % 2 ^ 32 ≡ (1024 + f % 2 ^ 10) * 2 ^ (f / 2 ^ 10 % 2 ^ 5 - 8) = shl-exact 11 (f / 2 ^ 10 % 2 ^ 5 - 8) 32 (omega arith) (omega arith) in
-    rw (c .from .ensures, e, m, whole) (grind (arith, tells))
+    rw (c .from .ensures, e, m) (grind (arith, tells, whole))

@@ -20,13 +20,13 @@ returns c =
     let o = c .args .octets .now in
     let five : 5 ≤ length o = search needs in
     let word : c .word .result ≡ number (take 5 o) =
-        rw (five-first o five) (omega (arith, c .word .ensures, c .typed .octets 0, c .typed .octets 1, c .typed .octets 2, c .typed .octets 3, c .typed .octets 4))
+    rw (five-first o five) (omega (arith, c .word .ensures, c .typed .octets 0, c .typed .octets 1, c .typed .octets 2, c .typed .octets 3, c .typed .octets 4))
     in
     let sized : (leb 5 (length o) && leb (length o) 2048) ≡ true = grind (arith, tells) in
     let answer : seen (c .frame-of .result) ≡ readFrame o =
-        c .frame-of .ensures
-        ∙ ap (λ w. readFields (cut headerLayout w) (length o) (take (length o - 5) (drop 5 o))) word
-        ∙ ap (λ p. readFields (cut headerLayout (number (take 5 o))) (length o) p) (between-to-end o 5 (length o) (omega arith))
-        ∙ sym (ap (λ t. cond t (readFields (cut headerLayout (number (take 5 o))) (length o) (drop 5 o)) (Err fault.Size)) sized)
+    c .frame-of .ensures
+    ∙ ap (λ w. readFields (cut headerLayout w) (length o) (take (length o - 5) (drop 5 o))) word
+    ∙ ap (λ p. readFields (cut headerLayout (number (take 5 o))) (length o) p) (between-to-end o 5 (length o) (omega arith))
+    ∙ sym (ap (λ t. cond t (readFields (cut headerLayout (number (take 5 o))) (length o) (drop 5 o)) (Err fault.Size)) sized)
     in
     record { answer = answer; undone = undone o (c .frame-of .result) (λ i. omega (arith, c .typed .octets i)) answer }

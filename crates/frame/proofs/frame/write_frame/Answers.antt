@@ -53,6 +53,7 @@ returns c =
     let w = join headerLayout (fieldsOf f) in
     let five = five-then (c .args .buffer .now) (c .args .frame .payload .now) (w / 2 ^ 32 % 2 ^ 8) (w / 2 ^ 24 % 2 ^ 8) (w / 2 ^ 16 % 2 ^ 8) (w / 2 ^ 8 % 2 ^ 8) (w / 1 % 2 ^ 8) (omega arith) in
     record {
-        answer = ap Ok (sym size) ∙ g .answer;
-        after = simp (c .copy-from-slice .ensures .after, c .octets-of .ensures, told .1) (five ∙ g .after);
-        undone = simp (c .copy-from-slice .ensures .after, c .octets-of .ensures, told .1) (ap (λ b. readFrame (take (length (f .payload) + 5) b)) five ∙ ap (λ n. readFrame (take n (beginning (frameOctets f) (c .args .buffer .now)))) (sym size) ∙ ap readFrame (g .first) ∙ reading-undoes f (frameOctets f) o) }
+      answer = ap Ok (sym size) ∙ g .answer;
+      after = simp (c .copy-from-slice .ensures .after, c .octets-of .ensures, told .1) (five ∙ g .after);
+      undone = simp (c .copy-from-slice .ensures .after, c .octets-of .ensures, told .1) (ap (λ b. readFrame (take (length (f .payload) + 5) b)) five ∙ ap (λ n. readFrame (take n (beginning (frameOctets f) (c .args .buffer .now)))) (sym size) ∙ ap readFrame (g .first) ∙ reading-undoes f (frameOctets f) o);
+    }

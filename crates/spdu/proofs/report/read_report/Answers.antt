@@ -22,6 +22,6 @@ returns c =
     let second : getD (take (length o - 1) (drop 1 o)) 0 0 ≡ y = ap (λ l. getD l 0 0) (between-to-end o 1 (length o) (omega arith)) ∙ getD-drop 1 o 0 0 in
     let word : c .word .result ≡ number (x ∷ y ∷ []) = omega (arith, second, c .word .ensures, c .typed .octets 0, c .typed .octets 1) in
     let answer : c .report-of .result ≡ readReport o =
-        two-octets x y (c .report-of .result) (eq-eqb (x / 64) 2 kind) (c .report-of .ensures ∙ ap (λ w. reportWith (cut reportLayout w)) word) ∙ ap readReport (sym (two-of o two))
+    two-octets x y (c .report-of .result) (eq-eqb (x / 64) 2 kind) (c .report-of .ensures ∙ ap (λ w. reportWith (cut reportLayout w)) word) ∙ ap readReport (sym (two-of o two))
     in
     record { answer = answer; undone = undone o (c .report-of .result) (λ i. omega (arith, c .typed .octets i)) answer }

@@ -19,7 +19,7 @@ returns c =
     let own = own-octets r (told .0) in
     let encoded : encodedReport r ≡ Ok (reportOctets r) = encodes fault.TooWide fit (reportOctets r) (readReport (reportOctets r)) r (told .0) own in
     let w = puts-known fault.Buffer (encodedReport r) readReport r (reportOctets r) (c .args .buffer .now) (c .ok-or .result) (c .put-first .last .buffer) encoded own
-        (c .ok-or .ensures .value ∙ ap (λ x. okOr x fault.Buffer) (c .put-first .ensures .answer) ∙ ap (λ p. okOr (putAnswer p (c .args .buffer .now)) fault.Buffer) o)
-        (c .put-first .ensures .after ∙ ap (λ p. put p (c .args .buffer .now)) o)
+    (c .ok-or .ensures .value ∙ ap (λ x. okOr x fault.Buffer) (c .put-first .ensures .answer) ∙ ap (λ p. okOr (putAnswer p (c .args .buffer .now)) fault.Buffer) o)
+    (c .put-first .ensures .after ∙ ap (λ p. put p (c .args .buffer .now)) o)
     in
     record { answer = w .answer; after = w .holds; undone = w .undone }

@@ -12,7 +12,7 @@ returns-in-Field c =
     let o = c .args .octets .now in
     let s = variable (c .in-Field .kind) (c .in-Field .field .now) in
     let opens : opened o ≡ Ok (holds-field (c .in-Field .kind) (c .in-Field .field .now)) =
-        sym (c .open-spdu .ensures) ∙ ap contentSeen (c .in-Continue-octets .was tt ∙ ap Ok (c .in-Field .is))
+    sym (c .open-spdu .ensures) ∙ ap contentSeen (c .in-Continue-octets .was tt ∙ ap Ok (c .in-Field .is))
     in
     let ends : reading o .ends ≡ Ok tt = sym (c .check-spdu .ensures) ∙ c .in-Continue-check-spdu .was tt in
     let read : readSpdu o ≡ Ok s = ap (λ r. carry r (λ _. carry (opened o) contentRead)) ends ∙ ap (λ k. carry k contentRead) opens in

@@ -16,9 +16,10 @@ returns-in-Report c =
     let after = c .write-report .last .buffer in
     let same = same-encoding r ∙ ap (λ s. encodedSpdu (spduValue s)) (sym (c .in-Report .is)) in
     record {
-        answer = c .write-report .ensures .answer ∙ ap (λ e. writeAnswer fault.Buffer e b) same;
-        after = c .write-report .ensures .after ∙ ap (λ e. written e b) same;
-        undone =
-            made-weaker (c .write-report .result) (λ n. readReport (take n after) ≡ Ok r) (λ n. readSpdu (take n after) ≡ Ok (spduValue (c .args .spdu)))
-            (λ n e. reads-report (take n after) r e ∙ ap (λ s. Ok (spduValue s)) (sym (c .in-Report .is)))
-            (c .write-report .ensures .undone) }
+      answer = c .write-report .ensures .answer ∙ ap (λ e. writeAnswer fault.Buffer e b) same;
+      after = c .write-report .ensures .after ∙ ap (λ e. written e b) same;
+      undone =
+          made-weaker (c .write-report .result) (λ n. readReport (take n after) ≡ Ok r) (λ n. readSpdu (take n after) ≡ Ok (spduValue (c .args .spdu)))
+          (λ n e. reads-report (take n after) r e ∙ ap (λ s. Ok (spduValue s)) (sym (c .in-Report .is)))
+          (c .write-report .ensures .undone);
+    }

@@ -20,7 +20,7 @@ returns-in-Break-read-spdu c =
     let s = variable (c .args .kind) o in
     let told = some-tells (spduFits s) (join variableLayout (variableFields (c .args .kind) (length o))) (c .in-Some .header) (c .in-Some .ensures tt .answer) in
     let own : take (length o + 1 - 0) (c .header-then-all .result) ≡ spduOctets s =
-        ap (λ k. take k (c .header-then-all .result)) (omega arith) ∙ c .header-then-all .ensures ∙ ap (λ h. h ∷ o) (told .1)
+    ap (λ k. take k (c .header-then-all .result)) (omega arith) ∙ c .header-then-all .ensures ∙ ap (λ h. h ∷ o) (told .1)
     in
     let told-fault = c .in-Break-read-spdu .field-0 .0 in
     let read : readSpdu (spduOctets s) ≡ Err told-fault = ap readSpdu (sym own) ∙ sym (c .read-spdu .ensures .answer) ∙ ap spduSeen (c .in-Break-read-spdu .was tt) in
@@ -34,13 +34,13 @@ returns c =
     let s = variable (c .args .kind) o in
     let told = some-tells (spduFits s) (join variableLayout (variableFields (c .args .kind) (length o))) (c .in-Some .header) (c .in-Some .ensures tt .answer) in
     let own : take (length o + 1 - 0) (c .header-then-all .result) ≡ spduOctets s =
-        ap (λ k. take k (c .header-then-all .result)) (omega arith) ∙ c .header-then-all .ensures ∙ ap (λ h. h ∷ o) (told .1)
+    ap (λ k. take k (c .header-then-all .result)) (omega arith) ∙ c .header-then-all .ensures ∙ ap (λ h. h ∷ o) (told .1)
     in
     let v = spduValue (c .in-Continue-read-spdu .field-0) in
     let read : readSpdu (spduOctets s) ≡ Ok v = ap readSpdu (sym own) ∙ sym (c .read-spdu .ensures .answer) ∙ ap spduSeen (c .in-Continue-read-spdu .was tt) in
     let encoded : encodedSpdu s ≡ Ok (spduOctets s) = encodes fault.TooWide (spduFits s) (spduOctets s) (readSpdu (spduOctets s)) v (told .0) read in
     let w = puts-known fault.Buffer (encodedSpdu s) readSpdu s (spduOctets s) (c .args .buffer .now) (c .ok-or .result) (c .put-first .last .buffer) encoded (reading-undoes s (spduOctets s) encoded)
-        (c .ok-or .ensures .value ∙ ap (λ x. okOr x fault.Buffer) (c .put-first .ensures .answer) ∙ ap (λ p. okOr (putAnswer p (c .args .buffer .now)) fault.Buffer) own)
-        (c .put-first .ensures .after ∙ ap (λ p. put p (c .args .buffer .now)) own)
+    (c .ok-or .ensures .value ∙ ap (λ x. okOr x fault.Buffer) (c .put-first .ensures .answer) ∙ ap (λ p. okOr (putAnswer p (c .args .buffer .now)) fault.Buffer) own)
+    (c .put-first .ensures .after ∙ ap (λ p. put p (c .args .buffer .now)) own)
     in
     record { answer = w .answer; after = w .holds; undone = w .undone }

@@ -7,6 +7,7 @@ pub returns : need.returns
 returns c =
     let o = c .args .unit .now in
     record {
-        items = c .start .ensures;
-        joined = subst (λ r. JoinedIn o r) (sym (c .start .ensures)) (items-joined o);
-        sound = subst (λ r. Sound r) (sym (c .start .ensures)) (items-sound o) }
+      items = c .start .ensures;
+      joined = subst (λ r. JoinedIn o r) (sym (c .start .ensures)) (items-joined o);
+      sound = subst (λ r. Sound r) (sym (c .start .ensures)) (items-sound o);
+    }

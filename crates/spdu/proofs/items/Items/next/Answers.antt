@@ -9,5 +9,6 @@ returns-in-Single c =
     let at = c .args .self .now .at in
     let unit = c .args .self .now .unit .now in
     record {
-        answer = sym (ap (λ x. nextItem (leftAt unit at x)) (c .in-Single .is));
-        after = nothing unit ∙ sym (ap (λ x. afterItem (leftAt unit at x)) (c .in-Single .is)) }
+      answer = sym (ap (λ x. nextItem (leftAt unit at x)) (c .in-Single .is));
+      after = nothing unit ∙ sym (ap (λ x. afterItem (leftAt unit at x)) (c .in-Single .is));
+    }

@@ -18,6 +18,7 @@ returns c =
     let found = finds-in at unit n e in
     let size : at + c .size .result - at ≡ sizeOf n = omega (arith, c .size .ensures) in
     record {
-        answer = ap (λ i. Ok (Some i)) (c .item-of .ensures ∙ ap (λ k. directive n (take k (drop at unit))) size) ∙ sym (ap nextItem found);
-        after = ap (λ k. directives 0 (at + k) (drop (at + k) unit)) (c .size .ensures) ∙ sym (ap afterItem found);
-        same = refl }
+      answer = ap (λ i. Ok (Some i)) (c .item-of .ensures ∙ ap (λ k. directive n (take k (drop at unit))) size) ∙ sym (ap nextItem found);
+      after = ap (λ k. directives 0 (at + k) (drop (at + k) unit)) (c .size .ensures) ∙ sym (ap afterItem found);
+      same = refl;
+    }
