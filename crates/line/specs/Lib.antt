@@ -1,0 +1,5 @@
+pub mod Fault
+pub mod Line
+pub mod Fade
+pub mod Transfer
+pub mod Memory

@@ -1,0 +1,1 @@
+//! One ring queue for every kind of element, over a lent table.
