@@ -1,8 +1,8 @@
 -- Octets in lent memory.
 use mathlib.Core.List.{List, _++_}
 use mathlib.Core.Bool.{Bool, cond}
-use Prim.Native.Nat.{ℕ, _+_}
-use lib.Dec.{leb}
+use Prim.Native.Nat.{ℕ, _+_, _-_}
+use lib.Dec.{leb, ltb}
 use lib.ListN.{length, take, drop}
 
 -- whether so many octets have room from a place on
@@ -16,3 +16,7 @@ overlaid store at octets = take at store ++ (octets ++ drop (at + length octets)
 -- the same, where they have room, and nothing changed where not
 abbrev pub laid : List ℕ → ℕ → List ℕ → List ℕ
 laid store at octets = cond (roomFor store at octets) (overlaid store at octets) store
+
+-- the place that comes k after the first, round a ring of that size
+abbrev pub place : ℕ → ℕ → ℕ → ℕ
+place size first k = cond (ltb (first + k) size) (first + k) (first + k - size)

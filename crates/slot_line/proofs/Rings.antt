@@ -2,10 +2,8 @@
 use mathlib.Core.Path.{_≡_, refl, sym, ap, subst, _∙_}
 use mathlib.Core.List.{List, [], _∷_, _++_, map}
 use mathlib.Core.Logic.{_⊎_, inl, inr, ⊎-elim}
-use mathlib.Core.Bool.{cond}
 use Prim.Native.Nat.{ℕ, suc, zero, _+_, _-_, _*_, _<_, _≤_}
 use native.Mathlib.Omega.{arith}
-use lib.Dec.{ltb}
 use lib.ListN.{length, getD, take, drop, set}
 use Rattle.std.specs.Iters.{counting}
 use Rattle.std.specs.shelf.Lists.{All}
@@ -15,19 +13,10 @@ use Rattle.std.proofs.shelf.Counted.{length-map-counting, getD-map-counting, ma
 use Rattle.std.proofs.shelf.Tests.{cases-lt}
 use Rattle.std.proofs.shelf.Ways.{tells}
 use Rattle.line.specs.Line.{Waiting, FrameSized, Sound}
-use Rattle.line.specs.Memory.{laid}
+use Rattle.line.specs.Memory.{laid, place}
 use Rattle.line.proofs.Laying.{laid-there, laid-before, laid-after, length-laid}
-use Rattle.slot_line.specs.Ring.{place, slot, slots, FrameLengths}
-
-pub place-below : (limit first k : ℕ) → first < limit → k ≤ limit → place limit first k < limit
-place-below limit first k a b = grind (arith, tells)
-
--- slots less than a turn apart are two slots
-place-other : (limit first k n : ℕ) → first < limit → k < n → n < limit → place limit first k ≡ place limit first n → ⊥
-place-other limit first k n a b d e = grind (arith, tells)
-
-place-next : (limit first k : ℕ) → first < limit → k < limit → place limit (place limit first 1) k ≡ place limit first (k + 1)
-place-next limit first k a b = grind (arith, tells)
+use Rattle.line.proofs.Places.{place-below, place-other, place-next}
+use Rattle.slot_line.specs.Ring.{slot, slots, FrameLengths}
 
 -- functions that agree count by count make one list
 same-counted : {X : Type 0} (f g : ℕ → X) (a b n : ℕ) → ((k : ℕ) → k < n → f (a + k) ≡ g (b + k)) → map f (counting a n) ≡ map g (counting b n)

@@ -1,18 +1,15 @@
 -- Slots in a ring.
 use mathlib.Core.List.{List, map}
 use mathlib.Core.Bool.{cond, _&&_}
-use Prim.Native.Nat.{ℕ, _+_, _-_, _*_, _<_, _≤_}
-use lib.Dec.{ltb, leb, eqb}
+use Prim.Native.Nat.{ℕ, _*_, _<_, _≤_}
+use lib.Dec.{leb, eqb}
 use lib.ListN.{getD, take, drop}
 use Rattle.std.specs.Iters.{counting}
 use Rattle.std.specs.declared.result.Result.{Result}
 use Rattle.std.specs.declared.result.Result.the-variants.{Ok, Err}
+use Rattle.line.specs.Memory.{place}
 use Rattle.line.specs.declared.fault.LineFault.{LineFault}
 use Rattle.line.specs.declared.fault.LineFault.the-variants.{Memory, Limit}
-
--- the slot that comes k after the first, round the ring
-abbrev pub place : ℕ → ℕ → ℕ → ℕ
-place limit first k = cond (ltb (first + k) limit) (first + k) (first + k - limit)
 
 -- the frame in a slot: so many octets as its length tells, from the slot's start on
 abbrev pub slot : List ℕ → List ℕ → ℕ → List ℕ

@@ -9,9 +9,9 @@ use Rattle.std.specs.Results.{isOk}
 use Rattle.std.specs.declared.option.Option.{Option}
 use Rattle.std.specs.declared.result.Result.{Result}
 use Rattle.line.specs.Line.{Waiting, putAnswer}
-use Rattle.line.specs.Memory.{laid}
+use Rattle.line.specs.Memory.{laid, place}
 use Rattle.line.specs.declared.fault.LineFault.{LineFault}
-use Rattle.slot_line.specs.Ring.{place, slots}
+use Rattle.slot_line.specs.Ring.{slots}
 use Rattle.slot_line.specs.declared.slots.SlotLine.{SlotLine}
 
 abbrev pub storeOf : SlotLine → List ℕ

@@ -1,7 +1,7 @@
 //! How the marks move.
 ghost use Prim.Native.Nat.{_+_, _-_, _<_, _≤_};
 ghost use mathlib.Core.Path.{_≡_};
-ghost use Rattle.slot_line.specs.Ring.{place};
+ghost use Rattle.line.specs.Memory.{place};
 use super::Marks;
 
 impl Marks {
