@@ -29,13 +29,6 @@ impl<L: Line> Fade<L> {
     {
         self.lose = lose;
     }
-
-    /// How many frames are left to lose.
-    pub fn left(&self) -> u64
-        ensures { λ r. ⌜ r ≡ now (self .entry) .lose ⌝ }
-    {
-        self.lose
-    }
 }
 
 pub impl<L: Line> Line for Fade<L> as FadeLine {

@@ -6,7 +6,7 @@ use lib.Dec.{leb, eqb}
 use lib.ListN.{length, getD, take, drop}
 use Rattle.std.specs.declared.result.Result.{Result}
 use Rattle.std.specs.declared.result.Result.the-variants.{Ok, Err}
-use Rattle.line.specs.Memory.{laid}
+use Rattle.line.specs.Memory.{laid, place}
 use Rattle.line.specs.declared.fault.LineFault.{LineFault}
 use Rattle.line.specs.declared.fault.LineFault.the-variants.{Memory, Limit}
 
@@ -25,6 +25,10 @@ told u = 256 * getD u 0 0 + getD u 1 0
 -- a frame behind its two length octets
 abbrev pub headed : List ℕ → List ℕ
 headed f = length f / 256 ∷ (length f % 256 ∷ f)
+
+-- a ring after a frame was laid behind the used octets
+abbrev pub frameLaid : List ℕ → ℕ → ℕ → List ℕ → List ℕ
+frameLaid ring first used f = laidRound (laidRound ring (place (length ring) first used) (length f / 256 ∷ length f % 256 ∷ [])) (place (length ring) first (used + 2)) f
 
 -- so many frames, read off octets
 abbrev pub framesIn : ℕ → List ℕ → List (List ℕ)

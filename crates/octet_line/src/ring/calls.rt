@@ -1,9 +1,8 @@
 //! What an octet line does.
 ghost use mathlib.Core.Bool.{false};
 ghost use mathlib.Core.Path.{_≡_};
-ghost use Rattle.line.specs.Line.{Puts, Takes, putAnswer};
-ghost use Rattle.octet_line.specs.Octets.{ringOf, waitingIn};
-ghost use Rattle.std.specs.Results.{isOk};
+ghost use Rattle.line.specs.Line.{Puts, Takes};
+ghost use Rattle.octet_line.specs.Octets.{ringAfter, ringOf, waitingIn};
 use line::fault::LineFault;
 use line::line::Line;
 use super::OctetLine;
@@ -18,7 +17,7 @@ pub impl<'a> Line for OctetLine<'a> as OctetLineLine {
 
     fn put(&mut self, frame: &[u8]) -> Result<(), LineFault>
         ensures line { λ r. ⌜ Puts (λ lost. lost ≡ false) (waitingIn (now (self .entry))) (waitingIn (now (self .exit))) (now (frame .entry)) r ⌝ }
-        ensures refused { λ r. ⌜ (isOk r ≡ false → ringOf (now (self .exit)) ≡ ringOf (now (self .entry))) ⌝ }
+        ensures octets { λ _. ⌜ ringOf (now (self .exit)) ≡ ringAfter (now (self .entry)) (now (frame .entry)) ⌝ }
     {
         let count = frame.len();
         if count < 5 || count > 2048 {

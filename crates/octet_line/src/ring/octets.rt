@@ -4,7 +4,7 @@ ghost use mathlib.Core.List.{_++_};
 ghost use mathlib.Core.Path.{_≡_};
 ghost use lib.ListN.{length, take};
 ghost use Rattle.line.specs.Memory.{laid};
-ghost use Rattle.octet_line.specs.Ring.{headed, laidRound, told, turned};
+ghost use Rattle.octet_line.specs.Ring.{frameLaid, headed, laidRound, told, turned};
 use line::memory::lay;
 use super::Memory;
 use super::Span;
@@ -33,6 +33,7 @@ pub(crate) fn add_frame(memory: &mut Memory, span: Span, frame: &[u8])
     requires fits { ⌜ span .used + (2 + length (now frame)) ≤ 2050 * span .limit ⌝ }
     ensures room { λ _. ⌜ length (now (now (memory .exit) .octets)) ≡ length (now (now (memory .entry) .octets)) ⌝ }
     ensures octets { λ _. ⌜ take (span .used + (2 + length (now (frame .entry)))) (turned (span .first) (now (now (memory .exit) .octets))) ≡ take (span .used) (turned (span .first) (now (now (memory .entry) .octets))) ++ headed (now (frame .entry)) ⌝ }
+    ensures laid { λ _. ⌜ now (now (memory .exit) .octets) ≡ frameLaid (now (now (memory .entry) .octets)) (span .first) (span .used) (now (frame .entry)) ⌝ }
 {
     let count = frame.len();
     let head = [(count / 256) as u8, (count % 256) as u8];

@@ -1,10 +1,11 @@
-use mathlib.Core.Path.{_≡_, refl, _∙_, sym}
-use mathlib.Core.Bool.{true, false}
+use mathlib.Core.Path.{_≡_, refl, _∙_, sym, ap}
+use mathlib.Core.Bool.{false, cond}
 use Prim.Native.Nat.{_<_}
 use native.Mathlib.Omega.{arith}
-use Rattle.std.proofs.shelf.Tests.{true≢false}
+use Rattle.std.specs.Results.{isOk}
 use Rattle.line.proofs.Meaning.{puts-full, puts-last}
-use Rattle.octet_line.specs.Octets.{usedIn, waitingIn}
+use Rattle.octet_line.specs.Octets.{ringOf, usedIn, waitingIn}
+use Rattle.octet_line.specs.Ring.{frameLaid}
 use Rattle.octet_line.proofs.Frames.{frames-count}
 use Rattle.octet_line.proofs.Whole.{room-left, grown}
 use Rattle.octet_line.proofs.ring.calls.OctetLineLine.put.Needs as need
@@ -12,10 +13,9 @@ use Rattle.octet_line.proofs.ring.calls.OctetLineLine.put.Needs as need
 pub returns-then-span : need.returns-then-span
 returns-then-span c =
     let me = c .args .self .now in
-    record {
-      line = puts-full (λ lost. lost ≡ false) (waitingIn me) (c .args .frame .now) (c .if-count-lt5 .left, c .if-count-gt2048 .left) (frames-count (me .span .count) (usedIn me) ∙ c .if-span .taken);
-      refused = λ _. refl;
-    }
+    let f = c .args .frame .now in
+    let line = puts-full (λ lost. lost ≡ false) (waitingIn me) f (c .if-count-lt5 .left, c .if-count-gt2048 .left) (frames-count (me .span .count) (usedIn me) ∙ c .if-span .taken) in
+    record { line = line; octets = ap (λ r. cond (isOk r) (frameLaid (ringOf me) (me .span .first) (me .span .used) f) (ringOf me)) (line .answer) }
 
 pub add-frame-requires : need.add-frame-requires
 add-frame-requires c κs =
@@ -44,7 +44,6 @@ returns c =
     let me = c .args .self .now in
     let is = c .longer-self .ensures in
     let after = grown me (c .args .frame .now) _ _ _ _ _ (c .if-count-lt5 .left, c .if-count-gt2048 .left) (c .add-frame .ensures .room) (c .add-frame .ensures .octets) (is .first) (is .used) (is .count) (is .limit) in
-    record {
-      line = puts-last (λ lost. lost ≡ false) (waitingIn me) _ (c .args .frame .now) (c .if-count-lt5 .left, c .if-count-gt2048 .left) (λ e. c .if-span .left (sym (frames-count (me .span .count) (usedIn me)) ∙ e)) (is .limit) (after .frames) refl;
-      refused = λ e. absurd (true≢false e);
-    }
+    let f = c .args .frame .now in
+    let line = puts-last (λ lost. lost ≡ false) (waitingIn me) _ f (c .if-count-lt5 .left, c .if-count-gt2048 .left) (λ e. c .if-span .left (sym (frames-count (me .span .count) (usedIn me)) ∙ e)) (is .limit) (after .frames) refl in
+    record { line = line; octets = c .add-frame .ensures .laid ∙ ap (λ r. cond (isOk r) (frameLaid (ringOf me) (me .span .first) (me .span .used) f) (ringOf me)) (line .answer) }

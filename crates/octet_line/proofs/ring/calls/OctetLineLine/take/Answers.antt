@@ -2,23 +2,16 @@ use mathlib.Core.Path.{_≡_, refl, _∙_, sym}
 use Prim.Native.Nat.{_≤_, _<_, _+_, _*_}
 use native.Mathlib.Omega.{arith}
 use lib.ListN.{length, take}
-use Rattle.std.proofs.shelf.Lists.{nil-from-length}
-use Rattle.line.proofs.Meaning.{takes-short, takes-none, takes-oldest}
+use Rattle.line.proofs.Meaning.{takes-short, takes-oldest}
 use Rattle.line.proofs.Places.{place-below}
 use Rattle.line.proofs.Laying.{laid-first}
 use Rattle.octet_line.specs.Ring.{turned, told}
 use Rattle.octet_line.specs.Octets.{ringOf, usedIn, waitingIn}
-use Rattle.octet_line.proofs.Frames.{frames-count}
 use Rattle.octet_line.proofs.Whole.{octets-sound, ahead, size-is, taken-fits, popped}
 use Rattle.octet_line.proofs.ring.calls.OctetLineLine.take.Needs as need
 
 pub returns-then-buffer-lt2048 : need.returns-then-buffer-lt2048
 returns-then-buffer-lt2048 c = record { line = takes-short (waitingIn (c .args .self .now)) (c .args .buffer .now) (octets-sound (c .args .self .now)) (c .if-buffer-lt2048 .taken); memory = refl }
-
-pub returns-then-span-eq0 : need.returns-then-span-eq0
-returns-then-span-eq0 c =
-    let me = c .args .self .now in
-    record { line = takes-none (waitingIn me) (c .args .buffer .now) (octets-sound me) (c .if-buffer-lt2048 .left) (nil-from-length _ (frames-count (me .span .count) (usedIn me) ∙ c .if-span-eq0 .taken)); memory = refl }
 
 pub read-round-requires : need.read-round-requires
 read-round-requires c κs =

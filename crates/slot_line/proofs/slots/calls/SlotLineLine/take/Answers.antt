@@ -2,12 +2,11 @@ use mathlib.Core.Path.{_≡_, refl, _∙_, sym, ap}
 use Prim.Native.Nat.{_≤_}
 use native.Mathlib.Omega.{arith}
 use lib.ListN.{length}
-use Rattle.std.proofs.shelf.Lists.{nil-from-length}
-use Rattle.line.proofs.Meaning.{takes-short, takes-none, takes-oldest}
+use Rattle.line.proofs.Meaning.{takes-short, takes-oldest}
 use Rattle.line.proofs.Laying.{laid-first}
 use Rattle.slot_line.specs.Ring.{slot}
 use Rattle.slot_line.specs.Slots.{storeOf, lengthsOf, waitingIn}
-use Rattle.slot_line.proofs.Rings.{slots-length, slots-sound, popped-slots, popped-sizes, first-size, slot-length}
+use Rattle.slot_line.proofs.Rings.{slots-sound, popped-slots, popped-sizes, first-size, slot-length}
 use Rattle.slot_line.proofs.slots.calls.SlotLineLine.take.Needs as need
 
 pub returns-then-buffer-lt2048 : need.returns-then-buffer-lt2048
@@ -16,16 +15,6 @@ returns-then-buffer-lt2048 c =
     let m = me .marks in
     let sound = slots-sound (storeOf me) (lengthsOf me) (m .first) (m .count) (m .limit) (me .room) (m .some) (m .most) (m .near) (m .few) (me .sizes) in
     record { line = takes-short (waitingIn me) (c .args .buffer .now) sound (c .if-buffer-lt2048 .taken); memory = record { store = refl; lengths = refl } }
-
-pub returns-then-marks-eq0 : need.returns-then-marks-eq0
-returns-then-marks-eq0 c =
-    let me = c .args .self .now in
-    let m = me .marks in
-    let sound = slots-sound (storeOf me) (lengthsOf me) (m .first) (m .count) (m .limit) (me .room) (m .some) (m .most) (m .near) (m .few) (me .sizes) in
-    record {
-      line = takes-none (waitingIn me) (c .args .buffer .now) sound (c .if-buffer-lt2048 .left) (nil-from-length _ (slots-length (storeOf me) (lengthsOf me) (m .first) (m .count) (m .limit) ∙ c .if-marks-eq0 .taken));
-      memory = record { store = refl; lengths = refl };
-    }
 
 pub read-slot-requires : need.read-slot-requires
 read-slot-requires c κs =

@@ -1,0 +1,18 @@
+use mathlib.Core.Path.{_≡_}
+use native.Mathlib.Omega.{arith}
+use lib.ListN.{set}
+use borrow.Author.Needs.{needs}
+use Rattle.queue.proofs.Promises.{added, added-tied}
+use Rattle.queue.proofs.queue.Queue.add.Needs as need
+
+pub returns : need.returns
+returns g c =
+    let q = c .args .self .now in
+    let t = c .args .table .now in
+    let u = set t (c .index-end .result) (c .args .x) in
+    let done = added q t (c .args .x) (c .longer .result .count) (c .longer .result) u (omega arith) (omega arith) (search needs) (search needs) (search needs) in
+    record {
+      added = done;
+      tied = added-tied (g .T·Octets .octets) (g .T·Octets·met .few) q t (c .args .x) _ _ _ _ (omega arith) done (search needs);
+      kept = search needs;
+    }

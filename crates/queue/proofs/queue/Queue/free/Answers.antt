@@ -1,0 +1,16 @@
+use mathlib.Core.Path.{_≡_}
+use native.Mathlib.Omega.{arith}
+use borrow.Author.Needs.{needs}
+use Rattle.queue.proofs.Promises.{freed, freed-tied}
+use Rattle.queue.proofs.queue.Queue.free.Needs as need
+
+pub returns : need.returns
+returns g c =
+    let q = c .args .self .now in
+    let t = c .args .table .now in
+    let done = freed q t (c .args .n) (c .min-gone .result) (c .shorter .result) (omega arith) (search needs) (search needs) in
+    record {
+      freed = done;
+      tied = freed-tied (g .T·Octets .octets) q t (c .args .n) _ _ _ (omega arith) (search needs) done (search needs);
+      kept = search needs;
+    }

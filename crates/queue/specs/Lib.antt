@@ -1,0 +1,4 @@
+pub mod Limits
+pub mod Fault
+pub mod Ring
+pub mod Queue
