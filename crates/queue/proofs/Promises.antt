@@ -39,25 +39,27 @@ added q t x n g′ t′ fit room count numbers table = record {
   list = ap (λ h. queued h t′) numbers ∙ ap (queued (grown (q .ring))) table ∙ queued-grown (q .ring) t x (sound q) fit room;
 }
 
--- the octets of a full queue are far fewer than a number can hold, so the total does not reach its limit
-pub added-tied : {T : Type 0} (f : T → ℕ) → ((x : T) → f x ≤ mostOctets) → (q : Queue) (t : List T) (x : T) (n total : ℕ) (g′ : Ring) (t′ : List T) → length t ≡ q .ring .size
-    → Added (q .ring) t x (Ok n) g′ t′ → total ≡ min (q .total + f x) (2 ^ 64 - 1) → Tied f q t → total ≡ sumBy f (queued g′ t′)
-added-tied f few q t x n total g′ t′ fit a more was =
+-- and the total, which does not reach the limit of a number: the octets of a full queue are far fewer
+pub added-tied : {T : Type 0} (f : T → ℕ) → ((x : T) → f x ≤ mostOctets) → (q : Queue) (t : List T) (x : T) (total : ℕ) (g′ : Ring) (t′ : List T)
+    → length t ≡ q .ring .size → q .ring .count < q .ring .size → g′ ≡ grown (q .ring) → t′ ≡ set t (indexOf (q .ring) (q .ring .count)) x
+    → total ≡ min (q .total + f x) (2 ^ 64 - 1) → Tied f q t → total ≡ sumBy f (queued g′ t′)
+added-tied f few q t x total g′ t′ fit room numbers table more was =
+    let list = added q t x (q .ring .count + 1) g′ t′ fit room refl numbers table .list in
     let bound : sumBy f (queued (q .ring) t) ≤ mostOctets * length (queued (q .ring) t) = sum-bound f few (queued (q .ring) t) in
-    let all : sumBy f (queued g′ t′) ≡ sumBy f (queued (q .ring) t) + f x = ap (sumBy f) (a .list) ∙ sumBy-push f (queued (q .ring) t) x in
+    let all : sumBy f (queued g′ t′) ≡ sumBy f (queued (q .ring) t) + f x = ap (sumBy f) list ∙ sumBy-push f (queued (q .ring) t) x in
     omega (arith, few x, counted (q .ring) t (sound q) fit, q .most, q .small)
 
 -- freeing, granted: the list from the numbers
-pub freed : {T : Type 0} (q : Queue) (t : List T) (n m : ℕ) (g′ : Ring) → length t ≡ q .ring .size → m ≡ min n (q .ring .count) → g′ ≡ without m (q .ring) → Freed (q .ring) t n (Ok m) g′
+pub freed : {T : Type 0} (q : Queue) (t : List T) (n m : ℕ) (g′ : Ring) → length t ≡ q .ring .size → m ≡ min n (q .ring .count) → g′ ≡ without (min n (q .ring .count)) (q .ring) → Freed (q .ring) t n (Ok m) g′
 freed q t n m g′ fit least numbers =
-    let exact : g′ ≡ without (min n (q .ring .count)) (q .ring) = numbers ∙ ap (λ k. without k (q .ring)) least in
-    record { answer = grind (arith, tells); numbers = exact; list = ap (λ h. queued h t) exact ∙ queued-without (q .ring) t n (sound q) fit }
+    record { answer = grind (arith, tells); numbers = numbers; list = ap (λ h. queued h t) numbers ∙ queued-without (q .ring) t n (sound q) fit }
 
 -- and what is left of the total
-pub freed-tied : {T : Type 0} (f : T → ℕ) (q : Queue) (t : List T) (n m total : ℕ) (g′ : Ring) → length t ≡ q .ring .size → m ≡ min n (q .ring .count)
-    → Freed (q .ring) t n (Ok m) g′ → total ≡ q .total - sumBy f (take m (queued (q .ring) t)) → Tied f q t → total ≡ sumBy f (queued g′ t)
-freed-tied f q t n m total g′ fit least a less was =
-    omega (arith, ap (sumBy f) (a .list), ap (λ k. sumBy f (take k (queued (q .ring) t))) least, sum-left f (queued (q .ring) t) n (q .ring .count) (counted (q .ring) t (sound q) fit))
+pub freed-tied : {T : Type 0} (f : T → ℕ) (q : Queue) (t : List T) (n total : ℕ) (g′ : Ring) → length t ≡ q .ring .size → g′ ≡ without (min n (q .ring .count)) (q .ring)
+    → total ≡ q .total - sumBy f (take (min n (q .ring .count)) (queued (q .ring) t)) → Tied f q t → total ≡ sumBy f (queued g′ t)
+freed-tied f q t n total g′ fit numbers less was =
+    let list = freed q t n (min n (q .ring .count)) g′ fit refl numbers .list in
+    omega (arith, ap (sumBy f) list, sum-left f (queued (q .ring) t) n (q .ring .count) (counted (q .ring) t (sound q) fit))
 
 -- copying out: an element that was read at the index of its place
 pub copied : {T : Type 0} (q : Queue) (t : List T) (k i : ℕ) (x d : T) → length t ≡ q .ring .size → k < q .ring .count → i ≡ indexOf (q .ring) k → x ≡ getD t i x → Copied (q .ring) t k d (Ok true) x

@@ -37,6 +37,14 @@ making n = cond (ltb 0 n && leb n largestTable) (Ok (emptyRing n)) (Err Table)
 abbrev pub Tied : {T : Type 0} → (T → ℕ) → Queue → List T → Type 0
 Tied octets q t = q .total ≡ sumBy octets (queued (q .ring) t)
 
+-- asking whether a table fits: over one that does, as many elements are queued as the count says; and over any table,
+-- a queue with a count and a total of 0, as one just made or cleared, has nothing queued, and is tied
+pub record Fitted {T : Type 0} (octets : T → ℕ) (q : Queue) (t : List T) (r : Bool) : Type 0 where
+  pub answer : r ≡ fitting (q .ring) t
+  pub counted : r ≡ true → length (queued (q .ring) t) ≡ q .ring .count
+  pub nothing : q .ring .count ≡ 0 → queued (q .ring) t ≡ []
+  pub tied : q .ring .count ≡ 0 → q .total ≡ 0 → Tied octets q t
+
 -- adding answers the count after it
 abbrev pub addAnswer : {T : Type 0} → Ring → List T → Result ℕ QueueFault
 addAnswer g t = cond (fitting g t) (cond (ltb (g .count) (g .size)) (Ok (g .count + 1)) (Err Full)) (Err Table)

@@ -1,14 +1,13 @@
 //! The calls of a queue.
 ghost use mathlib.Core.Path.{_≡_};
-ghost use mathlib.Core.Bool.{false, true};
-ghost use mathlib.Core.List.{[]};
+ghost use mathlib.Core.Bool.{false};
 ghost use Prim.Native.Nat.{_*_, _≤_, _<_, min};
-ghost use lib.ListN.{drop, length, take};
+ghost use lib.ListN.{length, take};
 ghost use Rattle.std.specs.Results.{isOk};
 ghost use Rattle.std.specs.Vec.{made};
 ghost use Rattle.std.specs.shelf.Lists.{sumBy};
 ghost use Rattle.queue.specs.Limits.{largestTable, mostOctets};
-ghost use Rattle.queue.specs.Queue.{Added, Copied, Freed, Tied, fitting, making, ringMade};
+ghost use Rattle.queue.specs.Queue.{Added, Copied, Fitted, Freed, Tied, making, ringMade};
 ghost use Rattle.queue.specs.Ring.{Sound, emptyRing, indexOf, queued};
 use super::fault::QueueFault;
 use super::queue::LARGEST_TABLE;
@@ -66,6 +65,13 @@ impl Queue {
         self.ring.count
     }
 
+    /// How many elements the table has that the queue was made for.
+    pub fn size(&self) -> usize
+        ensures { λ r. ⌜ r ≡ now (self .entry) .ring .size ⌝ }
+    {
+        self.ring.size
+    }
+
     /// How many octets the queued elements stand for together.
     pub fn total(&self) -> usize
         ensures { λ r. ⌜ r ≡ now (self .entry) .total ⌝ }
@@ -73,14 +79,9 @@ impl Queue {
         self.total
     }
 
-    /// Whether the table has the size that the queue was made for. If so, as many elements are queued as the count
-    /// says. A queue with a count and a total of 0, as one just made or cleared, has nothing queued in any table, and
-    /// its total is that of nothing.
+    /// Whether the table has the size that the queue was made for.
     pub fn fits<T: Octets>(&self, table: &[T]) -> bool
-        ensures answer { λ r. ⌜ r ≡ fitting (now (self .entry) .ring) (now (table .entry)) ⌝ }
-        ensures counted { λ r. ⌜ (r ≡ true → length (queued (now (self .entry) .ring) (now (table .entry))) ≡ now (self .entry) .ring .count) ⌝ }
-        ensures nothing { λ _. ⌜ (now (self .entry) .ring .count ≡ 0 → queued (now (self .entry) .ring) (now (table .entry)) ≡ []) ⌝ }
-        ensures tied { λ _. ⌜ (now (self .entry) .ring .count ≡ 0 → now (self .entry) .total ≡ 0 → Tied octets (now (self .entry)) (now (table .entry))) ⌝ }
+        ensures { λ r. ⌜ Fitted octets (now (self .entry)) (now (table .entry)) r ⌝ }
     {
         table.len() == self.ring.size
     }

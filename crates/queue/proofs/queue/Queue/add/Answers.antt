@@ -9,10 +9,8 @@ pub returns : need.returns
 returns g c =
     let q = c .args .self .now in
     let t = c .args .table .now in
-    let u = set t (c .index-end .result) (c .args .x) in
-    let done = added q t (c .args .x) (c .longer .result .count) (c .longer .result) u (omega arith) (omega arith) (search needs) (search needs) (search needs) in
     record {
-      added = done;
-      tied = added-tied (g .T·Octets .octets) (g .T·Octets·met .few) q t (c .args .x) _ _ _ _ (omega arith) done (search needs);
+      added = added q t (c .args .x) _ _ _ (omega arith) (omega arith) (search needs) (search needs) (search needs);
+      tied = added-tied (g .T·Octets .octets) (g .T·Octets·met .few) q t (c .args .x) _ (c .longer .result) (set t (c .index-end .result) (c .args .x)) (omega arith) (omega arith) (search needs) (search needs) (search needs);
       kept = search needs;
     }

@@ -8,4 +8,4 @@ pub returns-then-place-self : need.returns-then-place-self
 returns-then-place-self g c = not-copied (c .args .self .now) (c .args .table .now) (c .args .place) _ (omega arith) (omega arith)
 
 pub returns : need.returns
-returns g c = copied (c .args .self .now) (c .args .table .now) (c .args .place) _ _ _ (omega arith) (omega arith) (c .index .ensures .at) (c .index-table-index .is)
+returns g c = copied (c .args .self .now) (c .args .table .now) (c .args .place) (c .index .result) _ _ (omega arith) (omega arith) (search needs) (c .index-table-index .is)

@@ -8,9 +8,8 @@ pub returns : need.returns
 returns g c =
     let q = c .args .self .now in
     let t = c .args .table .now in
-    let done = freed q t (c .args .n) (c .min-gone .result) (c .shorter .result) (omega arith) (search needs) (search needs) in
     record {
-      freed = done;
-      tied = freed-tied (g .T·Octets .octets) q t (c .args .n) _ _ _ (omega arith) (search needs) done (search needs);
+      freed = freed q t (c .args .n) _ _ (omega arith) (search needs) (search needs);
+      tied = freed-tied (g .T·Octets .octets) q t (c .args .n) _ (c .shorter .result) (omega arith) (search needs) (search needs);
       kept = search needs;
     }
