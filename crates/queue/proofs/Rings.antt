@@ -1,10 +1,10 @@
 -- The laws of a ring: how many elements it has and where they lie, one more, and some gone.
-use mathlib.Core.Path.{_≡_, refl, sym, ap, subst, _∙_}
+use mathlib.Core.Path.{_≡_, sym, ap, _∙_}
 use mathlib.Core.Logic.{_≢_, ⊎-elim}
 use mathlib.Core.List.{List, [], _∷_, _++_}
 use Prim.Native.Nat.{ℕ, _+_, _-_, _≤_, _<_, min}
 use native.Mathlib.Omega.{arith}
-use lib.ListN.{length, take, drop, set, getD, length-append, length-take, length-drop, length-set}
+use lib.ListN.{length, drop, set, getD, length-append, length-take, length-drop, length-set}
 use lib.Seq.{getD-take, getD-drop, getD-set-same, getD-set-other}
 use Rattle.std.proofs.shelf.Lists.{same-lists, getD-append-left, getD-append-right, length-push, getD-push, getD-read, getD-past, drop-all}
 use Rattle.std.proofs.shelf.Tests.{cases-lt, cases-eq}

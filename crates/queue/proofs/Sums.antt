@@ -1,5 +1,5 @@
 -- The octets of a ring's elements.
-use mathlib.Core.Path.{_≡_, refl, sym, ap, _∙_}
+use mathlib.Core.Path.{_≡_, sym, ap, _∙_}
 use mathlib.Core.Logic.{⊎-elim}
 use mathlib.Core.List.{List, [], _∷_, _++_}
 use Prim.Native.Nat.{ℕ, _+_, _-_, _*_, _≤_, _<_, min}
@@ -13,7 +13,6 @@ use Rattle.std.proofs.shelf.Tests.{cases-lt}
 use Rattle.queue.specs.Limits.{mostOctets}
 use Rattle.queue.specs.Ring.{queued, Sound}
 use Rattle.queue.specs.declared.ring.Ring.{Ring}
-use Rattle.queue.proofs.Rings.{counted}
 
 -- elements of few octets have few together
 pub sum-bound : {T : Type 0} (f : T → ℕ) → ((x : T) → f x ≤ mostOctets) → (xs : List T) → sumBy f xs ≤ mostOctets * length xs
