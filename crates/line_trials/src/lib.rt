@@ -40,8 +40,8 @@ fn move_all<A: Line, B: Line>(from: &mut A, to: &mut B, buffer: &mut [u8]) -> Re
     Ok(())
 }
 
-/// Three frames over two lines, each under a fade layer that was told to lose so many.
-pub fn relay<A: Line + Drop, B: Line + Drop>(from: A, to: B, lose_from: u64, lose_to: u64) -> Result<Outcome, LineFault> {
+// Three frames over two lines, each under a fade layer that was told to lose so many.
+fn relay<A: Line + Drop, B: Line + Drop>(from: A, to: B, lose_from: u64, lose_to: u64) -> Result<Outcome, LineFault> {
     let mut from = Fade::new(from);
     let mut to = Fade::new(Fade::new(to));
     let mut buffer = [0u8; 2048];

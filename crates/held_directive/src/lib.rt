@@ -1,0 +1,3 @@
+//! Directives as a queue keeps them: their octets.
+pub mod calls;
+pub mod held;
