@@ -2,9 +2,9 @@
 ghost use mathlib.Core.Path.{_≡_};
 ghost use Rattle.bits.specs.Codec.{put, putAnswer};
 ghost use Rattle.held_directive.specs.Held.{heldOctets, packing, unpacked};
-use bits::put_first;
 use super::held::HeldDirective;
 use super::held::LONGEST_DIRECTIVE;
+use bits::put_first;
 
 impl HeldDirective {
     /// Packs octets. None where they are more than 16.

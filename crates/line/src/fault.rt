@@ -40,11 +40,13 @@ pub impl Fault for LineFault as LineFaultFault {
 
 pub impl fmt::Display for LineFault as LineFaultDisplay {
     fn fmt<W: fmt::Write>(&self, f: &mut fmt::Formatter<W>) -> fmt::Result {
-        f.write_str(match self {
-            LineFault::FrameSize => "a frame has 5 to 2,048 octets",
-            LineFault::Full => "as many frames wait as the line's limit",
-            LineFault::Memory => "a buffer or the line's memory has the wrong size",
-            LineFault::Limit => "a line's limit is 1 to 4,096",
-        })
+        f.write_str(
+            match self {
+                LineFault::FrameSize => "a frame has 5 to 2,048 octets",
+                LineFault::Full => "as many frames wait as the line's limit",
+                LineFault::Memory => "a buffer or the line's memory has the wrong size",
+                LineFault::Limit => "a line's limit is 1 to 4,096",
+            },
+        )
     }
 }

@@ -21,7 +21,11 @@ pub fn admits<L: Line>(line: &L, frame: &[u8]) -> Result<(), LineFault>
 
 /// Takes the oldest frame from one line and puts it on another. Answers whether there was one. A frame that the
 /// second line refuses has left the first, and is in the buffer.
-pub fn transfer<A: Line, B: Line>(from: &mut A, to: &mut B, buffer: &mut [u8]) -> Result<bool, LineFault>
+pub fn transfer<A: Line, B: Line>(
+    from: &mut A,
+    to: &mut B,
+    buffer: &mut [u8],
+) -> Result<bool, LineFault>
     ensures { λ r. ⌜ Transfers (B·Line .loses (now (to .entry))) (A·Line .waiting (now (from .entry))) (A·Line .waiting (now (from .exit))) (B·Line .waiting (now (to .entry))) (B·Line .waiting (now (to .exit))) (now (buffer .entry)) (now (buffer .exit)) r ⌝ }
 {
     match from.take(buffer)? {

@@ -31,7 +31,11 @@ fn put_three<L: Line>(line: &mut L) -> usize {
 }
 
 // Moves at most four frames from one line to the other.
-fn move_all<A: Line, B: Line>(from: &mut A, to: &mut B, buffer: &mut [u8]) -> Result<(), LineFault> {
+fn move_all<A: Line, B: Line>(
+    from: &mut A,
+    to: &mut B,
+    buffer: &mut [u8],
+) -> Result<(), LineFault> {
     for _ in 0..4u8 {
         if !transfer(from, to, buffer)? {
             return Ok(());
@@ -41,7 +45,12 @@ fn move_all<A: Line, B: Line>(from: &mut A, to: &mut B, buffer: &mut [u8]) -> Re
 }
 
 // Three frames over two lines, each under a fade layer that was told to lose so many.
-fn relay<A: Line + Drop, B: Line + Drop>(from: A, to: B, lose_from: u64, lose_to: u64) -> Result<Outcome, LineFault> {
+fn relay<A: Line + Drop, B: Line + Drop>(
+    from: A,
+    to: B,
+    lose_from: u64,
+    lose_to: u64,
+) -> Result<Outcome, LineFault> {
     let mut from = Fade::new(from);
     let mut to = Fade::new(Fade::new(to));
     let mut buffer = [0u8; 2048];
@@ -78,6 +87,7 @@ mod tests {
     use std::test::*;
 
     const SLOTS: usize = 8192;
+
     const OCTETS: usize = 8200;
 
     #[test]
@@ -90,7 +100,15 @@ mod tests {
         let from = make_slots(&mut store, &mut lengths, 4);
         let to = make_octets(&mut ring, 4);
         let outcome = relay(from, to, 0, 0)?;
-        check_eq(outcome, Outcome { granted: 3, waiting: 3, arrived: 3, first: 1 })
+        check_eq(
+            outcome,
+            Outcome {
+                granted: 3,
+                waiting: 3,
+                arrived: 3,
+                first: 1,
+            },
+        )
     }
 
     #[test]
@@ -103,7 +121,15 @@ mod tests {
         let to = make_slots(&mut store, &mut lengths, 4);
         let from = make_octets(&mut ring, 4);
         let outcome = relay(from, to, 1, 1)?;
-        check_eq(outcome, Outcome { granted: 3, waiting: 2, arrived: 1, first: 3 })
+        check_eq(
+            outcome,
+            Outcome {
+                granted: 3,
+                waiting: 2,
+                arrived: 1,
+                first: 3,
+            },
+        )
     }
 
     #[test]

@@ -29,8 +29,8 @@ front n u w =
 pub back : (n : ℕ) (u : List ℕ) → Front n u → areFrames (suc n) u ≡ true
 back n u w =
     and-from (leb 5 (told u) && leb (told u) 2048) (leb (2 + told u) (length u) && areFrames n (drop (2 + told u) u))
-      (and-from (leb 5 (told u)) (leb (told u) 2048) (le-leb 5 (told u) (w .low)) (le-leb (told u) 2048 (w .high)))
-      (and-from (leb (2 + told u) (length u)) (areFrames n (drop (2 + told u) u)) (le-leb (2 + told u) (length u) (w .fits)) (w .rest))
+    (and-from (leb 5 (told u)) (leb (told u) 2048) (le-leb 5 (told u) (w .low)) (le-leb (told u) 2048 (w .high)))
+    (and-from (leb (2 + told u) (length u)) (areFrames n (drop (2 + told u) u)) (le-leb (2 + told u) (length u) (w .fits)) (w .rest))
 
 size-append : (u e : List ℕ) → 2 ≤ length u → told (u ++ e) ≡ told u
 size-append u e h = rw (getD-append-left u e 0 0 (omega arith), getD-append-left u e 0 1 (omega arith))
@@ -51,9 +51,9 @@ push (suc n) u f w s =
     let t : take (told u) (drop 2 u ++ headed f) ≡ take (told u) (drop 2 u) = take-append-le (told u) (drop 2 u) (headed f) (rw length-drop (omega arith)) in
     let ih = push n (drop (2 + told u) u) f (a .rest) s in
     subst (λ (m : ℕ). take m (drop 2 (u ++ headed f)) ∷ framesIn (suc n) (drop (2 + m) (u ++ headed f)) ≡ take (told u) (drop 2 u) ∷ (framesIn n (drop (2 + told u) u) ++ f ∷ [])) (sym e)
-      (subst (λ (x : List ℕ). take (told u) x ∷ framesIn (suc n) (drop (2 + told u) (u ++ headed f)) ≡ take (told u) (drop 2 u) ∷ (framesIn n (drop (2 + told u) u) ++ f ∷ [])) (sym d2)
-        (subst (λ (x : List ℕ). take (told u) (drop 2 u ++ headed f) ∷ framesIn (suc n) x ≡ take (told u) (drop 2 u) ∷ (framesIn n (drop (2 + told u) u) ++ f ∷ [])) (sym ds)
-          (ap (λ (x : List ℕ). x ∷ framesIn (suc n) (drop (2 + told u) u ++ headed f)) t ∙ ap (λ (x : List (List ℕ)). take (told u) (drop 2 u) ∷ x) ih)))
+    (subst (λ (x : List ℕ). take (told u) x ∷ framesIn (suc n) (drop (2 + told u) (u ++ headed f)) ≡ take (told u) (drop 2 u) ∷ (framesIn n (drop (2 + told u) u) ++ f ∷ [])) (sym d2)
+    (subst (λ (x : List ℕ). take (told u) (drop 2 u ++ headed f) ∷ framesIn (suc n) x ≡ take (told u) (drop 2 u) ∷ (framesIn n (drop (2 + told u) u) ++ f ∷ [])) (sym ds)
+    (ap (λ (x : List ℕ). x ∷ framesIn (suc n) (drop (2 + told u) u ++ headed f)) t ∙ ap (λ (x : List (List ℕ)). take (told u) (drop 2 u) ∷ x) ih)))
 
 pub frames-pushed : (n : ℕ) (u f : List ℕ) → areFrames n u ≡ true → FrameSized f → areFrames (suc n) (u ++ headed f) ≡ true
 frames-pushed zero u f w s =

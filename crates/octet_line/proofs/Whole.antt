@@ -37,8 +37,8 @@ pub record Grown (s : OctetLine) (f r′ : List ℕ) (first′ used′ count′ 
   pub frames : framesIn count′ (take used′ (turned first′ r′)) ≡ framesIn (s .span .count) (usedIn s) ++ f ∷ []
 
 pub grown : (s : OctetLine) (f r′ : List ℕ) (first′ used′ count′ limit′ : ℕ) → FrameSized f → length r′ ≡ length (ringOf s)
-  → take (s .span .used + (2 + length f)) (turned (s .span .first) r′) ≡ usedIn s ++ headed f
-  → first′ ≡ s .span .first → used′ ≡ s .span .used + (2 + length f) → count′ ≡ s .span .count + 1 → limit′ ≡ s .span .limit → Grown s f r′ first′ used′ count′ limit′
+    → take (s .span .used + (2 + length f)) (turned (s .span .first) r′) ≡ usedIn s ++ headed f
+    → first′ ≡ s .span .first → used′ ≡ s .span .used + (2 + length f) → count′ ≡ s .span .count + 1 → limit′ ≡ s .span .limit → Grown s f r′ first′ used′ count′ limit′
 grown s f r′ first′ used′ count′ limit′ ok size octets first-is used-is count-is limit-is =
     let u : take used′ (turned first′ r′) ≡ usedIn s ++ headed f = rw (first-is, used-is) octets in
     let n : count′ ≡ suc (s .span .count) = count-is ∙ add-one (s .span .count) in
@@ -64,7 +64,7 @@ pub record Popped (s : OctetLine) (n from first′ used′ count′ limit′ : �
   pub size : n ≡ length (take n (turned from (ringOf s)))
 
 pub popped : (s : OctetLine) (n from first′ used′ count′ limit′ : ℕ) → 1 ≤ s .span .count → n ≡ told (turned (s .span .first) (ringOf s)) → from ≡ place (2050 * s .span .limit) (s .span .first) 2
-  → first′ ≡ place (2050 * s .span .limit) (s .span .first) (2 + n) → used′ ≡ s .span .used - (2 + n) → count′ ≡ s .span .count - 1 → limit′ ≡ s .span .limit → Popped s n from first′ used′ count′ limit′
+    → first′ ≡ place (2050 * s .span .limit) (s .span .first) (2 + n) → used′ ≡ s .span .used - (2 + n) → count′ ≡ s .span .count - 1 → limit′ ≡ s .span .limit → Popped s n from first′ used′ count′ limit′
 popped s n from first′ used′ count′ limit′ some n-is from-is first-is used-is count-is limit-is =
     let r = ringOf s in let first = s .span .first in let used = s .span .used in
     let size : length r ≡ 2050 * s .span .limit = s .room in
@@ -78,9 +78,9 @@ popped s n from first′ used′ count′ limit′ some n-is from-is first-is us
     let rest : take used′ (turned first′ r) ≡ drop (2 + n) (usedIn s) = rw (used-is, first″) (ring-read-all r first (2 + n) (used - (2 + n)) near (omega arith) ∙ rest-of (turned first r) used (2 + n) fits) in
     let rest′ : drop (2 + n) (usedIn s) ≡ drop (2 + told (usedIn s)) (usedIn s) = ap (λ (z : ℕ). drop (2 + z) (usedIn s)) m in
     let frame′ : take n (drop 2 (usedIn s)) ≡ take (told (usedIn s)) (drop 2 (usedIn s)) = ap (λ (z : ℕ). take z (drop 2 (usedIn s))) m in
-    record
-      { room = size ∙ ap (λ (z : ℕ). 2050 * z) (sym limit-is)
-      ; whole = rw (rest, rest′, count-is) (ahead s some .rest)
-      ; frames = rw (rest, rest′, count-is, frame, frame′) (frames-pop (s .span .count) (usedIn s) some)
-      ; size = sym (length-take-le n (turned from r) (let q : length (turned from r) ≡ length r = length-turned from r (omega (arith, place-below (length r) first 2 near (omega arith))) in omega arith))
-      }
+    record {
+      room = size ∙ ap (λ (z : ℕ). 2050 * z) (sym limit-is);
+      whole = rw (rest, rest′, count-is) (ahead s some .rest);
+      frames = rw (rest, rest′, count-is, frame, frame′) (frames-pop (s .span .count) (usedIn s) some);
+      size = sym (length-take-le n (turned from r) (let q : length (turned from r) ≡ length r = length-turned from r (omega (arith, place-below (length r) first 2 near (omega arith))) in omega arith));
+    }

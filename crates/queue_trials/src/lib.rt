@@ -36,10 +36,22 @@ fn three_through_two() -> Result<Outcome, UnitFault> {
         slips: &mut slips,
         store: &mut store,
     };
-    hold(&mut queue, &mut units, 1, Quality::SequenceControlled, &[10])?;
+    hold(
+        &mut queue,
+        &mut units,
+        1,
+        Quality::SequenceControlled,
+        &[10],
+    )?;
     let most = hold(&mut queue, &mut units, 2, Quality::Expedited, &[20, 21])?;
     let _ = free_units(&mut queue, &units, 1)?;
-    hold(&mut queue, &mut units, 3, Quality::SequenceControlled, &[30, 31, 32])?;
+    hold(
+        &mut queue,
+        &mut units,
+        3,
+        Quality::SequenceControlled,
+        &[30, 31, 32],
+    )?;
     let oldest = match copy_unit(&queue, &units, 0, &mut buffer)? {
         Some(note) => note.port,
         None => 0,
@@ -87,7 +99,15 @@ mod tests {
 
     #[test]
     fn units_come_in_their_order() -> Result<(), Fail> {
-        check_eq(three_through_two(), Ok(Outcome { most: 2, total: 5, oldest: 2, youngest: 30 }))
+        check_eq(
+            three_through_two(),
+            Ok(Outcome {
+                most: 2,
+                total: 5,
+                oldest: 2,
+                youngest: 30,
+            }),
+        )
     }
 
     #[test]
@@ -104,8 +124,17 @@ mod tests {
             store: &mut store,
         };
         let mut queue = Queue::new(1)?;
-        check_eq(hold(&mut queue, &mut units, 8, Quality::Expedited, &[1]), Err(UnitFault::Unit))?;
-        check_eq(hold(&mut queue, &mut units, 7, Quality::Expedited, &[1]), Ok(1))?;
-        check_eq(hold(&mut queue, &mut units, 7, Quality::Expedited, &[1]), Err(UnitFault::Full))
+        check_eq(
+            hold(&mut queue, &mut units, 8, Quality::Expedited, &[1]),
+            Err(UnitFault::Unit),
+        )?;
+        check_eq(
+            hold(&mut queue, &mut units, 7, Quality::Expedited, &[1]),
+            Ok(1),
+        )?;
+        check_eq(
+            hold(&mut queue, &mut units, 7, Quality::Expedited, &[1]),
+            Err(UnitFault::Full),
+        )
     }
 }

@@ -41,11 +41,11 @@ module _ (store lengths f : List ℕ) (limit i : ℕ) (room : length store ≡ 2
   slot-other : (j : ℕ) → (j ≡ i → ⊥) → getD lengths j 0 ≤ 2048 → slot (laid store (2048 * i) f) (set lengths i (length f)) j ≡ slot store lengths j
   slot-other j ne le =
       rw (getD-set-other lengths i j (length f) 0 ne)
-        (⊎-elim (λ (b : j < i). laid-before store f (2048 * i) (2048 * j) (getD lengths j 0) fits (omega arith)) (λ (b : i ≤ j). laid-after store f (2048 * i) (2048 * j) (getD lengths j 0) fits (let b′ : i < j = grind arith in omega arith)) (cases-lt j i))
+      (⊎-elim (λ (b : j < i). laid-before store f (2048 * i) (2048 * j) (getD lengths j 0) fits (omega arith)) (λ (b : i ≤ j). laid-after store f (2048 * i) (2048 * j) (getD lengths j 0) fits (let b′ : i < j = grind arith in omega arith)) (cases-lt j i))
 
 -- a frame in the next slot comes last
 slots-push : (store lengths f : List ℕ) (first count limit : ℕ) → length store ≡ 2048 * limit → length lengths ≡ limit → first < limit → count < limit → length f ≤ 2048 → FrameLengths lengths first count limit
-  → slots (laid store (2048 * place limit first count) f) (set lengths (place limit first count) (length f)) first (count + 1) limit ≡ slots store lengths first count limit ++ f ∷ []
+    → slots (laid store (2048 * place limit first count) f) (set lengths (place limit first count) (length f)) first (count + 1) limit ≡ slots store lengths first count limit ++ f ∷ []
 slots-push store lengths f first count limit room table near few short sizes =
     let i : ℕ = place limit first count in
     let at : i < limit = place-below limit first count near (omega arith) in
@@ -60,9 +60,9 @@ sizes-push : (lengths : List ℕ) (n first count limit : ℕ) → length lengths
 sizes-push lengths n first count limit table near few low high sizes k l =
     let at : place limit first count < length lengths = omega (arith, place-below limit first count near (omega arith)) in
     ⊎-elim
-      (λ (b : k < count). rw (getD-set-other lengths (place limit first count) (place limit first k) n 0 (place-other limit first k count near b few)) (sizes k b))
-      (λ (b : count ≤ k). let e : k ≡ count = omega arith in subst (λ (j : ℕ). (5 ≤ getD (set lengths (place limit first count) n) (place limit first j) 0) × (getD (set lengths (place limit first count) n) (place limit first j) 0 ≤ 2048)) (sym e) (rw (getD-set-same lengths (place limit first count) n 0 at) (low, high)))
-      (cases-lt k count)
+    (λ (b : k < count). rw (getD-set-other lengths (place limit first count) (place limit first k) n 0 (place-other limit first k count near b few)) (sizes k b))
+    (λ (b : count ≤ k). let e : k ≡ count = omega arith in subst (λ (j : ℕ). (5 ≤ getD (set lengths (place limit first count) n) (place limit first j) 0) × (getD (set lengths (place limit first count) n) (place limit first j) 0 ≤ 2048)) (sym e) (rw (getD-set-same lengths (place limit first count) n 0 at) (low, high)))
+    (cases-lt k count)
 
 -- the oldest frame, and the others
 slots-pop : (store lengths : List ℕ) (first count limit : ℕ) → first < limit → 1 ≤ count → count ≤ limit → slots store lengths first count limit ≡ slot store lengths first ∷ slots store lengths (place limit first 1) (count - 1) limit
@@ -84,9 +84,9 @@ sizes-pop lengths first count limit near some few sizes k l = rw (place-next lim
 slots-framed : (store lengths : List ℕ) (first count limit : ℕ) → length store ≡ 2048 * limit → first < limit → count ≤ limit → FrameLengths lengths first count limit → All FrameSized (slots store lengths first count limit)
 slots-framed store lengths first count limit room near few sizes =
     all-from-getD FrameSized _ [] (λ k l.
-        let m : k < count = omega (arith, slots-length store lengths first count limit) in
-        rw (getD-map-counting (λ k. slot store lengths (place limit first k)) 0 count k k [] m (omega arith))
-        (subst (λ n. (5 ≤ n) × (n ≤ 2048)) (sym (slot-length store lengths limit (place limit first k) room (place-below limit first k near (omega arith)) (sizes k m .1))) (sizes k m)))
+    let m : k < count = omega (arith, slots-length store lengths first count limit) in
+    rw (getD-map-counting (λ k. slot store lengths (place limit first k)) 0 count k k [] m (omega arith))
+    (subst (λ n. (5 ≤ n) × (n ≤ 2048)) (sym (slot-length store lengths limit (place limit first k) room (place-below limit first k near (omega arith)) (sizes k m .1))) (sizes k m)))
 
 pub slots-sound : (s l : List ℕ) (first count limit : ℕ) → length s ≡ 2048 * limit → 1 ≤ limit → limit ≤ 4096 → first < limit → count ≤ limit → FrameLengths l first count limit → Sound (record { frames = slots s l first count limit; limit = limit })
 slots-sound s l first count limit room some most near few sizes = record { some = some; most = most; room = omega (arith, slots-length s l first count limit); each = slots-framed s l first count limit room near few sizes }
@@ -107,10 +107,11 @@ module _ (s l f s′ l′ : List ℕ) (first count limit i first′ count′ lim
 
   pub grown : Grown s l f s′ l′ first count limit first′ count′ limit′
   grown = record {
-      frames = rw (store-is, lengths-is, first-is, count-is, limit-is, place-is) (slots-push s l f first count limit room table near few short sizes);
-      room = rw (store-is, limit-is) (length-laid s f (2048 * i) (omega (arith, below)) ∙ room);
-      table = rw (lengths-is, limit-is) (length-set l i (length f) ∙ table);
-      sizes = rw (lengths-is, first-is, count-is, limit-is, place-is) (sizes-push l (length f) first count limit table near few low short sizes) }
+    frames = rw (store-is, lengths-is, first-is, count-is, limit-is, place-is) (slots-push s l f first count limit room table near few short sizes);
+    room = rw (store-is, limit-is) (length-laid s f (2048 * i) (omega (arith, below)) ∙ room);
+    table = rw (lengths-is, limit-is) (length-set l i (length f) ∙ table);
+    sizes = rw (lengths-is, first-is, count-is, limit-is, place-is) (sizes-push l (length f) first count limit table near few low short sizes);
+  }
 
 -- and with the oldest gone
 module _ (s l : List ℕ) (first count limit first′ count′ limit′ : ℕ)

@@ -65,7 +65,7 @@ module _ (q : Queue) (ss : List Slip) (store : List ℕ) (fit : memoryFits (q .r
       let z : 0 + i ≡ i = omega arith in
       drop-cons units k u (omega (arith, how-many))
       ∙ ap (λ v. v ∷ drop (suc k) units)
-        (element g (heldFrom store 0 ss) (sound q) size k u h ∙ held-at store 0 ss i u s near ∙ ap (λ j. unitAt store j (getD ss i s)) z ∙ ap (unitAt store i) (sym read))
+      (element g (heldFrom store 0 ss) (sound q) size k u h ∙ held-at store 0 ss i u s near ∙ ap (λ j. unitAt store j (getD ss i s)) z ∙ ap (unitAt store i) (sym read))
 
   -- the octets of the slip at an index, laid at the beginning of a buffer
   pub shown : (k i m : ℕ) (s : Slip) (b b′ : List ℕ) → 2043 ≤ length b → k < q .ring .count → i ≡ indexOf (q .ring) k → m ≡ s .length → b′ ≡ laid b 0 (take (2048 * i + m - 2048 * i) (drop (2048 * i) store)) → b′ ≡ beginning (take (s .length) (drop (2048 * indexOf (q .ring) k) store)) b

@@ -48,9 +48,9 @@ module _ (store o : List ℕ) (ss : List Slip) (j : ℕ) (x : Slip) (near : j < 
       let most = s .most in
       ap (λ l. record { port = s .port; quality = s .quality; octets = l })
       (⊎-elim
-        (λ (b : k < j). laid-before store o (2048 * j) (2048 * k) (s .length) fits (omega arith))
-        (λ (b : j ≤ k). laid-after store o (2048 * j) (2048 * k) (s .length) fits (let b′ : j < k = grind arith in omega arith))
-        (cases-lt k j))
+      (λ (b : k < j). laid-before store o (2048 * j) (2048 * k) (s .length) fits (omega arith))
+      (λ (b : j ≤ k). laid-after store o (2048 * j) (2048 * k) (s .length) fits (let b′ : j < k = grind arith in omega arith))
+      (cases-lt k j))
 
   pub held-set : heldFrom (laid store (2048 * j) o) 0 (set ss j x) ≡ set (heldFrom store 0 ss) j (record { port = x .port; quality = x .quality; octets = o })
   held-set =
@@ -60,23 +60,23 @@ module _ (store o : List ℕ) (ss : List Slip) (j : ℕ) (x : Slip) (near : j < 
       let size : length after ≡ length ss = length-held (laid store (2048 * j) o) 0 (set ss j x) ∙ length-set ss j x in
       let size′ : length (set before j u) ≡ length ss = length-set before j u ∙ length-held store 0 ss in
       same-lists after (set before j u) (size ∙ sym size′) (λ k d l.
-        let m : k < length ss = omega (arith, size) in
-        let m′ : k < length (set ss j x) = omega (arith, length-set ss j x) in
-        let zero-k : 0 + k ≡ k = omega arith in
-        let left : getD after k d ≡ unitAt (laid store (2048 * j) o) k (getD (set ss j x) k x) = held-at (laid store (2048 * j) o) 0 (set ss j x) k d x m′ ∙ ap (λ i. unitAt (laid store (2048 * j) o) i (getD (set ss j x) k x)) zero-k in
-        ⊎-elim
-          (λ (e : k ≡ j).
-            left
-            ∙ ap (λ i. unitAt (laid store (2048 * j) o) i (getD (set ss j x) i x)) e
-            ∙ ap (unitAt (laid store (2048 * j) o) j) (getD-set-same ss j x x near)
-            ∙ here
-            ∙ sym (ap (λ i. getD (set before j u) i d) e ∙ getD-set-same before j u d (omega (arith, length-held store 0 ss))))
-          (λ (ne : k ≡ j → ⊥).
-            left
-            ∙ ap (unitAt (laid store (2048 * j) o) k) (getD-set-other ss j k x x ne)
-            ∙ elsewhere k (getD ss k x) ne
-            ∙ sym (getD-set-other before j k u d ne ∙ held-at store 0 ss k d x m ∙ ap (λ i. unitAt store i (getD ss k x)) zero-k))
-          (cases-eq k j))
+      let m : k < length ss = omega (arith, size) in
+      let m′ : k < length (set ss j x) = omega (arith, length-set ss j x) in
+      let zero-k : 0 + k ≡ k = omega arith in
+      let left : getD after k d ≡ unitAt (laid store (2048 * j) o) k (getD (set ss j x) k x) = held-at (laid store (2048 * j) o) 0 (set ss j x) k d x m′ ∙ ap (λ i. unitAt (laid store (2048 * j) o) i (getD (set ss j x) k x)) zero-k in
+      ⊎-elim
+      (λ (e : k ≡ j).
+      left
+      ∙ ap (λ i. unitAt (laid store (2048 * j) o) i (getD (set ss j x) i x)) e
+      ∙ ap (unitAt (laid store (2048 * j) o) j) (getD-set-same ss j x x near)
+      ∙ here
+      ∙ sym (ap (λ i. getD (set before j u) i d) e ∙ getD-set-same before j u d (omega (arith, length-held store 0 ss))))
+      (λ (ne : k ≡ j → ⊥).
+      left
+      ∙ ap (unitAt (laid store (2048 * j) o) k) (getD-set-other ss j k x x ne)
+      ∙ elsewhere k (getD ss k x) ne
+      ∙ sym (getD-set-other before j k u d ne ∙ held-at store 0 ss k d x m ∙ ap (λ i. unitAt store i (getD ss k x)) zero-k))
+      (cases-eq k j))
 
 -- what a granted adding says
 pub record Granted (g : Ring) (ss : List Slip) (n : ℕ) : Type 0 where
@@ -118,9 +118,9 @@ held q ss store o x n g′ ss′ store′ fit some long ok numbers table octets 
       table = ap (map note) table ∙ map-set note ss j x ∙ ap (λ (k : ℕ). set (map note ss) j (noted k)) long;
       octets = octets;
       units =
-        ap (λ h. unitsIn h ss′ store′) numbers
-        ∙ ap (λ t. unitsIn (grown g) t store′) table
-        ∙ ap (λ s. unitsIn (grown g) (set ss j x) s) octets
-        ∙ ap (queued (grown g)) whole
-        ∙ queued-grown g (heldFrom store 0 ss) u (sound q) (length-held store 0 ss ∙ size) (yes .room);
+          ap (λ h. unitsIn h ss′ store′) numbers
+          ∙ ap (λ t. unitsIn (grown g) t store′) table
+          ∙ ap (λ s. unitsIn (grown g) (set ss j x) s) octets
+          ∙ ap (queued (grown g)) whole
+          ∙ queued-grown g (heldFrom store 0 ss) u (sound q) (length-held store 0 ss ∙ size) (yes .room);
     }

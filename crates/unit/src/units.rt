@@ -9,13 +9,13 @@ ghost use Rattle.std.specs.Results.{isOk};
 ghost use Rattle.frame.specs.declared.header.Quality.the-variants.{SequenceControlled};
 ghost use Rattle.queue.specs.Queue.{Tied};
 ghost use Rattle.unit.specs.Unit.{CopiesOut, Holds, LetsGo, memoryFits, note, slipOctets};
-use frame::header::Quality;
-use line::memory::lay;
-use queue::queue::Queue;
 use super::fault::UnitFault;
 use super::slip::Note;
 use super::slip::Slip;
 use super::slip::SlipOctets;
+use frame::header::Quality;
+use line::memory::lay;
+use queue::queue::Queue;
 
 /// How many octets the largest unit has.
 pub const LARGEST_UNIT: usize = 2043;
@@ -51,7 +51,13 @@ pub fn fits(queue: &Queue, units: &Units<'_>) -> bool
 }
 
 /// Queues a unit behind the others, and answers how many there are then. Its octets are copied once.
-pub fn hold(queue: &mut Queue, units: &mut Units<'_>, port: u8, quality: Quality, octets: &[u8]) -> Result<usize, UnitFault>
+pub fn hold(
+    queue: &mut Queue,
+    units: &mut Units<'_>,
+    port: u8,
+    quality: Quality,
+    octets: &[u8],
+) -> Result<usize, UnitFault>
     ensures held { λ r. ⌜ Holds (now (queue .entry) .ring) (now (queue .exit) .ring) (now (now (units .entry) .slips)) (now (now (units .exit) .slips)) (now (now (units .entry) .store)) (now (now (units .exit) .store)) (record { port = port; quality = quality; octets = now (octets .entry) }) r ⌝ }
     ensures tied { λ _. ⌜ (Tied slipOctets (now (queue .entry)) (now (now (units .entry) .slips)) → Tied slipOctets (now (queue .exit)) (now (now (units .exit) .slips))) ⌝ }
     ensures kept { λ r. ⌜ (isOk r ≡ false → now (queue .exit) ≡ now (queue .entry)) ⌝ }
@@ -80,7 +86,12 @@ pub fn hold(queue: &mut Queue, units: &mut Units<'_>, port: u8, quality: Quality
 
 /// Copies the unit at a place, counted from 0 at the oldest, out to a buffer of 2,043 octets or more, and answers what
 /// is noted of it, or none where there is no unit at the place.
-pub fn copy_unit(queue: &Queue, units: &Units<'_>, place: usize, buffer: &mut [u8]) -> Result<Option<Note>, UnitFault>
+pub fn copy_unit(
+    queue: &Queue,
+    units: &Units<'_>,
+    place: usize,
+    buffer: &mut [u8],
+) -> Result<Option<Note>, UnitFault>
     ensures { λ r. ⌜ CopiesOut (now (queue .entry) .ring) (now (now (units .entry) .slips)) (now (now (units .entry) .store)) place (now (buffer .entry)) (now (buffer .exit)) r ⌝ }
 {
     if !fits(queue, units) || buffer.len() < LARGEST_UNIT {
@@ -93,15 +104,11 @@ pub fn copy_unit(queue: &Queue, units: &Units<'_>, place: usize, buffer: &mut [u
     let slip = units.slips[index];
     let start = SLOT * index;
     let _ = lay(buffer, 0, &units.store[start..start + slip.length as usize]);
-    Ok(
-        Some(
-            Note {
-                port: slip.port,
-                quality: slip.quality,
-                length: slip.length,
-            },
-        ),
-    )
+    Ok(Some(Note {
+        port: slip.port,
+        quality: slip.quality,
+        length: slip.length,
+    }))
 }
 
 /// Lets the first n units go, or all where there are fewer, and answers how many went.

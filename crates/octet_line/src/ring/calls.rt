@@ -3,12 +3,12 @@ ghost use mathlib.Core.Bool.{false};
 ghost use mathlib.Core.Path.{_≡_};
 ghost use Rattle.line.specs.Line.{Puts, Takes};
 ghost use Rattle.octet_line.specs.Octets.{ringAfter, ringOf, waitingIn};
-use line::fault::LineFault;
-use line::line::Line;
 use super::OctetLine;
 use super::octets::add_frame;
 use super::octets::first_length;
 use super::octets::read_round;
+use line::fault::LineFault;
+use line::line::Line;
 
 pub impl<'a> Line for OctetLine<'a> as OctetLineLine {
     ghost waiting = { waitingIn };

@@ -5,10 +5,10 @@ ghost use lib.ListN.{length};
 ghost use Rattle.octet_line.specs.Octets.{ringOf, waitingIn};
 ghost use Rattle.octet_line.specs.Ring.{makingAnswer};
 ghost use Rattle.std.specs.declared.result.Result.the-variants.{Ok};
-use line::fault::LineFault;
 use super::Memory;
 use super::OctetLine;
 use super::Span;
+use line::fault::LineFault;
 
 /// Tries what an octet line over so many octets asks, for a limit.
 pub fn try_octets(octets: usize, limit: usize) -> Result<(), LineFault>

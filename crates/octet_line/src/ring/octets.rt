@@ -5,9 +5,9 @@ ghost use mathlib.Core.Path.{_≡_};
 ghost use lib.ListN.{length, take};
 ghost use Rattle.line.specs.Memory.{laid};
 ghost use Rattle.octet_line.specs.Ring.{frameLaid, headed, laidRound, told, turned};
-use line::memory::lay;
 use super::Memory;
 use super::Span;
+use line::memory::lay;
 
 // Lays octets from a place on, and goes on at the ring's start where they come to its end.
 fn lay_round(ring: &mut [u8], at: usize, octets: &[u8])

@@ -6,11 +6,11 @@ ghost use lib.ListN.{drop, length, set, take};
 ghost use Rattle.line.specs.Line.{Puts, Takes};
 ghost use Rattle.line.specs.Memory.{laid};
 ghost use Rattle.slot_line.specs.Slots.{SameMemory, lengthsAfter, lengthsOf, storeAfter, storeOf, waitingIn};
+use super::Memory;
+use super::SlotLine;
 use line::fault::LineFault;
 use line::line::Line;
 use line::memory::lay;
-use super::Memory;
-use super::SlotLine;
 
 // Lays a frame into a slot, and its length into the table.
 fn fill_slot(memory: &mut Memory, slot: usize, frame: &[u8])

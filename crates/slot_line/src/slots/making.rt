@@ -5,10 +5,10 @@ ghost use lib.ListN.{length};
 ghost use Rattle.slot_line.specs.Ring.{makingAnswer};
 ghost use Rattle.slot_line.specs.Slots.{SameMemory, lengthsOf, storeOf, waitingIn};
 ghost use Rattle.std.specs.declared.result.Result.the-variants.{Ok};
-use line::fault::LineFault;
 use super::Marks;
 use super::Memory;
 use super::SlotLine;
+use line::fault::LineFault;
 
 /// Tries what a slot line over so many octets and lengths asks, for a limit.
 pub fn try_slots(octets: usize, lengths: usize, limit: usize) -> Result<(), LineFault>

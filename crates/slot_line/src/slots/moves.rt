@@ -11,7 +11,11 @@ impl Marks {
         ensures { λ r. ⌜ r ≡ place (self .limit) (self .first) k ⌝ }
     {
         let slot = self.first + k;
-        if slot < self.limit { slot } else { slot - self.limit }
+        if slot < self.limit {
+            slot
+        } else {
+            slot - self.limit
+        }
     }
 
     // One slot more is used, behind the others.
