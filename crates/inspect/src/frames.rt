@@ -48,7 +48,7 @@ fn print_rewritten(rt: &LibcRuntime, frame: Frame<'_>, octets: &[u8]) -> io::Res
 }
 
 /// Prints what the octets of a line are, and counts it.
-pub fn print_frame(
+pub(crate) fn print_frame(
     rt: &LibcRuntime,
     line: u64,
     octets: &[u8],

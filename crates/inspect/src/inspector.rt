@@ -37,7 +37,7 @@ fn print_text_fault(rt: &LibcRuntime, line: u64, fault: TextFault) -> io::Result
 
 impl Inspector {
     /// An inspector at the start of the first line.
-    pub fn new() -> Inspector {
+    pub(crate) fn new() -> Inspector {
         Inspector {
             reader: Reader::new(),
             line: 1,
@@ -47,7 +47,7 @@ impl Inspector {
     }
 
     /// Takes the next character of the recording, and tells of the line if it ends there.
-    pub fn take(&mut self, rt: &LibcRuntime, character: u8) -> io::Result<()> {
+    pub(crate) fn take(&mut self, rt: &LibcRuntime, character: u8) -> io::Result<()> {
         if character == b'\n' {
             return self.end_line(rt);
         }
@@ -72,7 +72,7 @@ impl Inspector {
     }
 
     /// Ends the recording: the last line need not end in a line's end.
-    pub fn finish(&mut self, rt: &LibcRuntime) -> io::Result<()> {
+    pub(crate) fn finish(&mut self, rt: &LibcRuntime) -> io::Result<()> {
         if self.begun {
             self.end_line(rt)?;
         }

@@ -8,21 +8,21 @@ use frame::header::IdOf;
 use frame::header::Kind;
 use frame::header::Quality;
 
-pub fn quality_name(quality: Quality) -> &'static str {
+pub(crate) fn quality_name(quality: Quality) -> &'static str {
     match quality {
         Quality::SequenceControlled => "sequence-controlled",
         Quality::Expedited => "expedited",
     }
 }
 
-pub fn kind_name(kind: Kind) -> &'static str {
+pub(crate) fn kind_name(kind: Kind) -> &'static str {
     match kind {
         Kind::User => "user",
         Kind::Supervisory => "supervisory",
     }
 }
 
-pub fn construction_name(construction: Construction) -> &'static str {
+pub(crate) fn construction_name(construction: Construction) -> &'static str {
     match construction {
         Construction::Packets => "packets",
         Construction::Segments => "segments",
@@ -30,14 +30,14 @@ pub fn construction_name(construction: Construction) -> &'static str {
     }
 }
 
-pub fn id_of_name(id_of: IdOf) -> &'static str {
+pub(crate) fn id_of_name(id_of: IdOf) -> &'static str {
     match id_of {
         IdOf::Source => "source",
         IdOf::Destination => "destination",
     }
 }
 
-pub fn layer_name(layer: Layer) -> &'static str {
+pub(crate) fn layer_name(layer: Layer) -> &'static str {
     match layer {
         Layer::Line => "line",
         Layer::Frame => "frame",
@@ -47,7 +47,7 @@ pub fn layer_name(layer: Layer) -> &'static str {
     }
 }
 
-pub fn duplex_name(duplex: Duplex) -> &'static str {
+pub(crate) fn duplex_name(duplex: Duplex) -> &'static str {
     match duplex {
         Duplex::NoChange => "no change",
         Duplex::Full => "full",
@@ -57,14 +57,14 @@ pub fn duplex_name(duplex: Duplex) -> &'static str {
     }
 }
 
-pub fn modulation_name(modulation: Modulation) -> &'static str {
+pub(crate) fn modulation_name(modulation: Modulation) -> &'static str {
     match modulation {
         Modulation::BiPhaseL => "bi-phase-L",
         Modulation::Gmsk => "GMSK",
     }
 }
 
-pub fn coding_name(coding: Coding) -> &'static str {
+pub(crate) fn coding_name(coding: Coding) -> &'static str {
     match coding {
         Coding::Uncoded => "uncoded",
         Coding::Ldpc2048 => "LDPC (2048, 1024)",
@@ -73,16 +73,16 @@ pub fn coding_name(coding: Coding) -> &'static str {
     }
 }
 
-pub fn yes_or_no(value: bool) -> &'static str {
+pub(crate) fn yes_or_no(value: bool) -> &'static str {
     either(value, "yes", "no")
 }
 
 /// The first text of a field of one bit that is set, else the second.
-pub fn either(value: bool, set: &'static str, clear: &'static str) -> &'static str {
+pub(crate) fn either(value: bool, set: &'static str, clear: &'static str) -> &'static str {
     if value { set } else { clear }
 }
 
 /// What so many octets are called.
-pub fn octets_name(count: usize) -> &'static str {
+pub(crate) fn octets_name(count: usize) -> &'static str {
     either(count == 1, "octet", "octets")
 }

@@ -12,7 +12,7 @@ use spdu::report::Report;
 use std::io;
 
 /// Prints a report.
-pub fn print_report(rt: &LibcRuntime, report: Report) -> io::Result<()> {
+pub(crate) fn print_report(rt: &LibcRuntime, report: Report) -> io::Result<()> {
     let retransmit = either(report.retransmit, "retransmit set", "retransmit clear");
     let channel = report.channel;
     let counter = report.counter;
@@ -85,7 +85,7 @@ fn print_request(rt: &LibcRuntime, request: ReportRequest) -> io::Result<()> {
 }
 
 /// Prints a directive.
-pub fn print_directive(rt: &LibcRuntime, directive: Directive) -> io::Result<()> {
+pub(crate) fn print_directive(rt: &LibcRuntime, directive: Directive) -> io::Result<()> {
     match directive {
         Directive::LinkEstablishment(link) => print_link(rt, link),
         Directive::ReportRequest(request) => print_request(rt, request),

@@ -3,7 +3,7 @@ use inspection::summary::Summary;
 use std::io;
 
 /// Prints the counts: of the refusals those that came.
-pub fn print_totals(rt: &LibcRuntime, summary: &Summary) -> io::Result<()> {
+pub(crate) fn print_totals(rt: &LibcRuntime, summary: &Summary) -> io::Result<()> {
     let controlled = summary.controlled;
     let expedited = summary.expedited;
     let supervisory = summary.supervisory;

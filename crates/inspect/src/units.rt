@@ -108,7 +108,7 @@ fn print_checked(rt: &LibcRuntime, unit: &[u8], told: Result<(), SpduFault>) -> 
 }
 
 /// Prints what a supervisory unit says, and hands on its refusal.
-pub fn print_unit(rt: &LibcRuntime, unit: &[u8]) -> io::Result<Result<(), SpduFault>> {
+pub(crate) fn print_unit(rt: &LibcRuntime, unit: &[u8]) -> io::Result<Result<(), SpduFault>> {
     let told = print_items(rt, unit)?;
     if let Err(fault) = told {
         print!(rt, "   ")?;
