@@ -3,6 +3,7 @@
 //! The first three bits of a directive are its name, and the name decides the fields that follow. Reading tries the
 //! name, then whether the octets end inside the directive, then reserved codes and spare bits, then ranges. Reading
 //! and writing undo each other, octet for octet.
+#![tactic(auto)]
 pub mod directive;
 pub mod fault;
 pub mod link;

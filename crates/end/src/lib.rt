@@ -4,6 +4,7 @@
 //! of the queues is the caller's, who lends it to each call. What an end stands for is a record of numbers and lists,
 //! its model, and each call is one definition over that model: its answer, and what changes. The calls themselves are
 //! in the crates `service` (handing in and collecting), `sending` and `receiving`.
+#![tactic(auto)]
 pub mod address;
 pub mod end;
 pub mod fault;
