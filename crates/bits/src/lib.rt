@@ -4,6 +4,7 @@
 //! link layer is cut and assembled with: one field of a word by a shift and a mask, a word of its fields, a word of
 //! octets, and the octets of a word. All of it is plain arithmetic on at most 128 bits: no layer is known here.
 #![tactic(auto)]
+
 ghost use Rattle.std.specs.Prelude.{◌≡◌, ◌/◌, ◌%◌, ◌^◌};
 ghost use Rattle.bits.specs.Codec.{put, put_answer};
 ghost use Rattle.bits.specs.Layout.{assembled, cut, number, octets, CutUndoesJoin, JoinUndoesCut};

@@ -3,6 +3,7 @@
 //! Each layer has a fault type of its own, with just the refusals that the layer can give. What they have in common
 //! is here: a fault tells the number of its refusal, the layer that refused, and the octet where the fault lies.
 #![tactic(auto)]
+
 ghost use Rattle.std.specs.Prelude.{◌≡◌};
 ghost use Rattle.fault.specs.Place.{Place};
 

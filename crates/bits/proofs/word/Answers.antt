@@ -10,7 +10,7 @@ loop-octet-preserved c =
     let i = c.loop-octet.octet-index in
     let n = number o % 2 ^ 128 in
     let here : Gathering c.loop-octet.word (get_or o i 0 ∷ drop (i + 1) o) n = rw (drop_more o i 0 c.loop-octet-test.true) at c.loop-octet.invariant in
-    rw c.from.ensures (gathers_on c.loop-octet.word (get_or o i 0) (drop (i + 1) o) n here (omega (arith, c.type-inv.octets i)))
+    rw c.from.ensures (gathers_on c.loop-octet.word (get_or o i 0) (drop (i + 1) o) n here (omega (arith, c.type_inv.octets i)))
 
 pub returns : goal.returns
 returns c =

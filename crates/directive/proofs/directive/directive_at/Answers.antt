@@ -9,5 +9,5 @@ returns-then-at-unit c = record { answer = ap (front c.args.at) (sym (drop_all c
 
 pub returns : goal.returns
 returns c =
-    let answer : c.front-of.result ≡ front c.args.at (drop c.args.at c.args.unit.now) = c.front-of.ensures ∙ ap (front c.args.at) (take_rest c.args.unit.now c.args.at) in
-    record { answer = answer; within = front_within c.args.at c.args.unit.now c.front-of.result answer }
+    let answer : c.front_of.result ≡ front c.args.at (drop c.args.at c.args.unit.now) = c.front_of.ensures ∙ ap (front c.args.at) (take_rest c.args.unit.now c.args.at) in
+    record { answer = answer; within = front_within c.args.at c.args.unit.now c.front_of.result answer }

@@ -6,5 +6,5 @@ use Rattle.directive.proofs.directive.judge.Goals as goal
 
 pub returns-in-LinkEstablishment : goal.returns-in-LinkEstablishment
 returns-in-LinkEstablishment c =
-    c.judge-link.ensures
+    c.judge_link.ensures
     ∙ ap (λ n. judged c.args.at (rules_of n) (cut (layout (rules_of n)) c.args.word)) (sym c.in-LinkEstablishment.is)

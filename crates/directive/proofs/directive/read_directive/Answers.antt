@@ -14,7 +14,7 @@ pub returns-then-octets-size : goal.returns-then-octets-size
 returns-then-octets-size c =
     let o = c.args.octets.now in
     let n = c.in-Some.name in
-    let named : front 0 o ≡ Ok (Some n) = sym c.front-of.ensures ∙ c.in-ok-name.was ∙ ap Ok c.in-Some.is in
+    let named : front 0 o ≡ Ok (Some n) = sym c.front_of.ensures ∙ c.in_ok-name.was ∙ ap Ok c.in-Some.is in
     let other : eqb (size_of n) (length o) ≡ false = ne_eqb (size_of n) (length o) (λ e. omega (arith, e, c.size.ensures, c.if-octets-size.true)) in
     record {
       answer = sym (ap (λ r. carry r (whole o)) named ∙ ap (λ t. cond t (Ok (directive_of n (fields_in n o))) (Err fault.Length)) other);
@@ -25,13 +25,13 @@ pub returns : goal.returns
 returns c =
     let o = c.args.octets.now in
     let n = c.in-Some.name in
-    let named : front 0 o ≡ Ok (Some n) = sym c.front-of.ensures ∙ c.in-ok-name.was ∙ ap Ok c.in-Some.is in
+    let named : front 0 o ≡ Ok (Some n) = sym c.front_of.ensures ∙ c.in_ok-name.was ∙ ap Ok c.in-Some.is in
     let size : size_of n ≡ length o = omega (arith, c.size.ensures, c.if-octets-size.false) in
-    let word : c.word.result ≡ number o = c.word.ensures ∙ number_small o (λ i. omega (arith, c.type-inv.octets i)) (omega (arith, size, size_small n)) in
-    let is : c.directive-of.result ≡ directive_of n (fields_in n o) = c.directive-of.ensures ∙ ap (λ w. directive_of n (cut (layout (rules_of n)) w)) word in
-    let read : read_directive o ≡ Ok c.directive-of.result =
+    let word : c.word.result ≡ number o = c.word.ensures ∙ number_small o (λ i. omega (arith, c.type_inv.octets i)) (omega (arith, size, size_small n)) in
+    let is : c.directive_of.result ≡ directive_of n (fields_in n o) = c.directive_of.ensures ∙ ap (λ w. directive_of n (cut (layout (rules_of n)) w)) word in
+    let read : read_directive o ≡ Ok c.directive_of.result =
     ap (λ r. carry r (whole o)) named
     ∙ ap (λ t. cond t (Ok (directive_of n (fields_in n o))) (Err fault.Length)) (eq-eqb (size_of n) (length o) size)
     ∙ ap Ok (sym is)
     in
-    record { answer = sym read; undone = writing_undoes o c.directive-of.result (λ i. omega (arith, c.type-inv.octets i)) read }
+    record { answer = sym read; undone = writing_undoes o c.directive_of.result (λ i. omega (arith, c.type_inv.octets i)) read }

@@ -3,8 +3,8 @@ use lib.Bits.{bit_and, and_mask}
 use Rattle.std.proofs.lemmas.Bool.Decides.{nat_tests}
 use Rattle.directive.proofs.rate.doubled_rate.Goals as goal
 
-pub overflow-sub-result : goal.overflow-sub-result
-overflow-sub-result c = grind (arith, nat_tests, and_mask (c.args.field / 2 ^ 10) 5)
+pub overflow_sub-result : goal.overflow_sub-result
+overflow_sub-result c = grind (arith, nat_tests, and_mask (c.args.field / 2 ^ 10) 5)
 
 pub returns : goal.returns
 returns c =

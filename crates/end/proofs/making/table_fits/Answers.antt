@@ -3,4 +3,4 @@ use Rattle.end.proofs.making.table_fits.Goals as goal
 
 pub returns : goal.returns
 unfolding directives_fit
-returns c = c.directives-fit.ensures
+returns c = c.directives_fit.ensures

@@ -7,6 +7,6 @@ pub returns : goal.returns
 returns g c =
     let buffer = c.args.buffer.now in
     let octets = c.args.octets.now in
-    let found = starts_is Decides-eqb buffer octets c.starts-with.result c.starts-with.ensures.value in
+    let found = starts_is Decides-eqb buffer octets c.starts_with.result c.starts_with.ensures.value in
     let all : c.in-Ok.count ≡ length octets = omega arith in
     (λ t. (c.in-Ok.is ∙ ap Ok all, found.0 t), λ h. found.1 (drop (length octets) buffer) h.1)

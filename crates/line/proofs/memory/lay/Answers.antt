@@ -11,5 +11,5 @@ returns c =
     let room : a + length o ≤ length s = omega arith in
     record {
       answer = sym (le-leb (a + length o) (length s) room);
-      after = part_written s c.copy-from-slice.new.self o a _ c.copy-from-slice.ensures.after (omega arith) ∙ sym (laid_room s o a room);
+      after = part_written s c.copy_from_slice.new.self o a _ c.copy_from_slice.ensures.after (omega arith) ∙ sym (laid_room s o a room);
     }

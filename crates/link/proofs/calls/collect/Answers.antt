@@ -13,7 +13,7 @@ returns-in-First c =
     let b' = c.collect.new.buffer in
     let a = c.collect.result in
     let h = subst (λ x. CollectsAt x l m b l' b' a) (sym c.in-First.is) (c.collect.ensures, (refl, refl)) in
-    λ forth back. collects_unit c.args.side l l' m b b' forth back a _ c.at-end.ensures h
+    λ forth back. collects_unit c.args.side l l' m b b' forth back a _ c.at_end.ensures h
 
 pub returns-in-Second : goal.returns-in-Second
 returns-in-Second c =
@@ -24,4 +24,4 @@ returns-in-Second c =
     let b' = c.collect-in-Second.new.buffer in
     let a = c.collect-in-Second.result in
     let h = subst (λ x. CollectsAt x l m b l' b' a) (sym c.in-Second.is) (c.collect-in-Second.ensures, (refl, refl)) in
-    λ forth back. collects_unit c.args.side l l' m b b' forth back a _ c.at-end-in-Second.ensures h
+    λ forth back. collects_unit c.args.side l l' m b b' forth back a _ c.at_end-in-Second.ensures h

@@ -8,20 +8,20 @@ pub returns-in-First : goal.returns-in-First
 returns-in-First c =
     let l = c.args.link.now in
     let m = c.args.memory.now in
-    let l' : Link = record { first = c.collect-directive.new.end; second = l.second } in
+    let l' : Link = record { first = c.collect_directive.new.end; second = l.second } in
     let b = c.args.buffer.now in
-    let b' = c.collect-directive.new.buffer in
-    let a = c.collect-directive.result in
-    let h = subst (λ x. CollectsDirectiveAt x l m b l' b' a) (sym c.in-First.is) (c.collect-directive.ensures, (refl, refl)) in
-    λ forth back. collects_one_directive c.args.side l l' m b b' forth back a _ c.at-end.ensures h
+    let b' = c.collect_directive.new.buffer in
+    let a = c.collect_directive.result in
+    let h = subst (λ x. CollectsDirectiveAt x l m b l' b' a) (sym c.in-First.is) (c.collect_directive.ensures, (refl, refl)) in
+    λ forth back. collects_one_directive c.args.side l l' m b b' forth back a _ c.at_end.ensures h
 
 pub returns-in-Second : goal.returns-in-Second
 returns-in-Second c =
     let l = c.args.link.now in
     let m = c.args.memory.now in
-    let l' : Link = record { second = c.collect-directive-in-Second.new.end; first = l.first } in
+    let l' : Link = record { second = c.collect_directive-in-Second.new.end; first = l.first } in
     let b = c.args.buffer.now in
-    let b' = c.collect-directive-in-Second.new.buffer in
-    let a = c.collect-directive-in-Second.result in
-    let h = subst (λ x. CollectsDirectiveAt x l m b l' b' a) (sym c.in-Second.is) (c.collect-directive-in-Second.ensures, (refl, refl)) in
-    λ forth back. collects_one_directive c.args.side l l' m b b' forth back a _ c.at-end-in-Second.ensures h
+    let b' = c.collect_directive-in-Second.new.buffer in
+    let a = c.collect_directive-in-Second.result in
+    let h = subst (λ x. CollectsDirectiveAt x l m b l' b' a) (sym c.in-Second.is) (c.collect_directive-in-Second.ensures, (refl, refl)) in
+    λ forth back. collects_one_directive c.args.side l l' m b b' forth back a _ c.at_end-in-Second.ensures h

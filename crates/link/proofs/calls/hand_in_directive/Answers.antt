@@ -9,20 +9,20 @@ pub returns-in-First : goal.returns-in-First
 returns-in-First c =
     let l = c.args.link.now in
     let m = c.args.memory.now in
-    let l' : Link = record { first = c.hand-in-directive.new.end; second = l.second } in
-    let m' : LinkMemory = record { first = c.hand-in-directive.new.memory; second = m.second } in
+    let l' : Link = record { first = c.hand_in_directive.new.end; second = l.second } in
+    let m' : LinkMemory = record { first = c.hand_in_directive.new.memory; second = m.second } in
     let o = c.args.octets.now in
-    let a = c.hand-in-directive.result in
-    let h = subst (λ x. HandsInDirectiveAt x o l m l' m' a) (sym c.in-First.is) (c.hand-in-directive.ensures, (refl, refl)) in
-    λ forth back. hands_in_directive c.args.side o l l' m m' forth back a _ c.at-end.ensures h
+    let a = c.hand_in_directive.result in
+    let h = subst (λ x. HandsInDirectiveAt x o l m l' m' a) (sym c.in-First.is) (c.hand_in_directive.ensures, (refl, refl)) in
+    λ forth back. hands_in_directive c.args.side o l l' m m' forth back a _ c.at_end.ensures h
 
 pub returns-in-Second : goal.returns-in-Second
 returns-in-Second c =
     let l = c.args.link.now in
     let m = c.args.memory.now in
-    let l' : Link = record { second = c.hand-in-directive-in-Second.new.end; first = l.first } in
-    let m' : LinkMemory = record { second = c.hand-in-directive-in-Second.new.memory; first = m.first } in
+    let l' : Link = record { second = c.hand_in_directive-in-Second.new.end; first = l.first } in
+    let m' : LinkMemory = record { second = c.hand_in_directive-in-Second.new.memory; first = m.first } in
     let o = c.args.octets.now in
-    let a = c.hand-in-directive-in-Second.result in
-    let h = subst (λ x. HandsInDirectiveAt x o l m l' m' a) (sym c.in-Second.is) (c.hand-in-directive-in-Second.ensures, (refl, refl)) in
-    λ forth back. hands_in_directive c.args.side o l l' m m' forth back a _ c.at-end-in-Second.ensures h
+    let a = c.hand_in_directive-in-Second.result in
+    let h = subst (λ x. HandsInDirectiveAt x o l m l' m' a) (sym c.in-Second.is) (c.hand_in_directive-in-Second.ensures, (refl, refl)) in
+    λ forth back. hands_in_directive c.args.side o l l' m m' forth back a _ c.at_end-in-Second.ensures h

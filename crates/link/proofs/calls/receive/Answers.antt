@@ -19,7 +19,7 @@ returns-in-First g c =
     let b' = c.receive.new.buffer in
     let a = c.receive.result in
     let h = subst (λ x. ReceivesAt x l m w v b l' m' w' v' b' a) (sym c.in-First.is) (c.receive.ensures.turn, ((refl, refl), refl)) in
-    receives_frame c.args.side l l' m m' w v w' v' b b' a _ c.at-end.ensures h
+    receives_frame c.args.side l l' m m' w v w' v' b b' a _ c.at_end.ensures h
 
 pub returns-in-Second : goal.returns-in-Second
 returns-in-Second g c =
@@ -35,4 +35,4 @@ returns-in-Second g c =
     let b' = c.receive-in-Second.new.buffer in
     let a = c.receive-in-Second.result in
     let h = subst (λ x. ReceivesAt x l m w v b l' m' w' v' b' a) (sym c.in-Second.is) (c.receive-in-Second.ensures.turn, ((refl, refl), refl)) in
-    receives_frame c.args.side l l' m m' w v w' v' b b' a _ c.at-end-in-Second.ensures h
+    receives_frame c.args.side l l' m m' w v w' v' b b' a _ c.at_end-in-Second.ensures h

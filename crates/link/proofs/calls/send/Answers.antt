@@ -17,7 +17,7 @@ returns-in-First g c =
     let may' = g.B.Line.loses c.args.back.now in
     let a = c.send.result in
     let h = subst (λ x. SendsAt x may may' l m w v l' w' v' a) (sym c.in-First.is) (c.send.ensures.turn, ((refl, refl), refl)) in
-    sends_frame c.args.side may may' l l' m w v w' v' a _ c.at-end.ensures h
+    sends_frame c.args.side may may' l l' m w v w' v' a _ c.at_end.ensures h
 
 pub returns-in-Second : goal.returns-in-Second
 returns-in-Second g c =
@@ -32,4 +32,4 @@ returns-in-Second g c =
     let may' = g.B.Line.loses c.args.back.now in
     let a = c.send-in-Second.result in
     let h = subst (λ x. SendsAt x may may' l m w v l' w' v' a) (sym c.in-Second.is) (c.send-in-Second.ensures.turn, ((refl, refl), refl)) in
-    sends_frame c.args.side may may' l l' m w v w' v' a _ c.at-end-in-Second.ensures h
+    sends_frame c.args.side may may' l l' m w v w' v' a _ c.at_end-in-Second.ensures h

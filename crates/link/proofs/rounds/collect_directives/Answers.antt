@@ -5,7 +5,7 @@ pub loop-side-init : goal.loop-side-init
 loop-side-init c = nothing_yet c.args.link.now c.args.memory.now
 
 pub loop-side-preserved : goal.loop-side-preserved
-loop-side-preserved c = one_more _ _ c.args.link.now c.loop-side.link c.collect-one-directive.new.link c.args.memory.now c.collect-one-directive.result c.loop-side.invariant c.collect-one-directive.ensures
+loop-side-preserved c = one_more _ _ c.args.link.now c.loop-side.link c.collect_one_directive.new.link c.args.memory.now c.collect_one_directive.result c.loop-side.invariant c.collect_one_directive.ensures
 
 pub returns : goal.returns
-returns c = last_one _ _ c.args.link.now c.loop-side.link c.collect-one-directive.new.link c.args.memory.now c.collect-one-directive.result c.loop-side.invariant c.collect-one-directive.ensures c.loop-side-test.false
+returns c = last_one _ _ c.args.link.now c.loop-side.link c.collect_one_directive.new.link c.args.memory.now c.collect_one_directive.result c.loop-side.invariant c.collect_one_directive.ensures c.loop-side-test.false

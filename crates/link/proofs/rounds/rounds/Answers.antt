@@ -7,11 +7,11 @@ use Rattle.link.proofs.rounds.rounds.Goals as goal
 pub loop-init : goal.loop-init
 loop-init g c = (ran_none (link_value c.args.link.now c.args.memory.now (g.A.Line.waiting c.args.forth.now) (g.B.Line.waiting c.args.back.now)), λ x. refl)
 
-pub go-round-requires : goal.go-round-requires
-go-round-requires g c =
+pub go_round-requires : goal.go_round-requires
+go_round-requires g c =
     let first : fits_at First c.args.link.now c.args.memory.now ≡ true = search rules in
     let second : fits_at Second c.args.link.now c.args.memory.now ≡ true = search rules in
     (c.loop.invariant.1 First ∙ first, c.loop.invariant.1 Second ∙ second)
 
 pub loop-preserved : goal.loop-preserved
-loop-preserved g c = (ran_on c.loop.invariant.0 c.go-round.ensures.round, λ x. c.go-round.ensures.fits x ∙ c.loop.invariant.1 x)
+loop-preserved g c = (ran_on c.loop.invariant.0 c.go_round.ensures.round, λ x. c.go_round.ensures.fits x ∙ c.loop.invariant.1 x)

@@ -6,14 +6,14 @@ use Rattle.frame.specs.Frame.{frame_value}
 use Rattle.receiving.proofs.Arriving.{not_addressed}
 use Rattle.receiving.proofs.arrival.open.Goals as goal
 
-pub returns-in-err-frame : goal.returns-in-err-frame
+pub returns-in_err-frame : goal.returns-in_err-frame
 unfolding arrival
-returns-in-err-frame c = search rules
+returns-in_err-frame c = search rules
 
-pub returns-in-err-check-address : goal.returns-in-err-check-address
-returns-in-err-check-address c =
-    let y = err_from_is_err_and c.from-residual-in-err-check-address.result c.from-residual-in-err-check-address.ensures.1 in
-    rw (y.1, y.2) (not_addressed (address_value c.args.address) c.args.octets.now (frame_value c.in-ok-frame.frame) _ c.in-ok-frame.ensures.answer c.in-err-check-address.ensures)
+pub returns-in_err-check_address : goal.returns-in_err-check_address
+returns-in_err-check_address c =
+    let y = err_from_is_err_and c.from-residual-in_err-check_address.result c.from-residual-in_err-check_address.ensures.1 in
+    rw (y.1, y.2) (not_addressed (address_value c.args.address) c.args.octets.now (frame_value c.in_ok-frame.frame) _ c.in_ok-frame.ensures.answer c.in_err-check_address.ensures)
 
 pub returns-in-User : goal.returns-in-User
 unfolding arrival

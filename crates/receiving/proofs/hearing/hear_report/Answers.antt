@@ -5,8 +5,8 @@ use Rattle.end.proofs.Changes.{becomes, came, directives_stay, units_freed, unit
 use Rattle.end.proofs.Fitting.{each}
 use Rattle.receiving.proofs.hearing.hear_report.Goals as goal
 
-pub returns-in-err-free-units : goal.returns-in-err-free-units
-returns-in-err-free-units c = absurd (units_let_go c.args.end.now.sequence c.args.memory.now.sequence _ _ _ (each c.args.end.now c.args.memory.now c.requires).sequence c.in-err-free-units.ensures.freed)
+pub returns-in_err-free_units : goal.returns-in_err-free_units
+returns-in_err-free_units c = absurd (units_let_go c.args.end.now.sequence c.args.memory.now.sequence _ _ _ (each c.args.end.now c.args.memory.now c.requires).sequence c.in_err-free_units.ensures.freed)
 
 pub returns : goal.returns
 returns c =
@@ -15,5 +15,5 @@ returns c =
     came
     (ap (acknowledged (model e m)) (sym c.in-Some.ensures.answer))
     refl
-    (becomes _ _ e m _ m refl refl c.after-expedited-end.ensures
-    (units_freed e.sequence m.sequence c.free-units.new.queue _ c.in-ok-free-units.field-0 c.in-ok-free-units.ensures.freed) (units_stay _ _) (units_stay _ _) (directives_stay _ _) (directives_stay _ _))
+    (becomes _ _ e m _ m refl refl c.after_expedited-end.ensures
+    (units_freed e.sequence m.sequence c.free_units.new.queue _ c.in_ok-free_units.field-0 c.in_ok-free_units.ensures.freed) (units_stay _ _) (units_stay _ _) (directives_stay _ _) (directives_stay _ _))

@@ -7,8 +7,8 @@ returns-in-Some c =
     let q = c.args.queue.now in
     let d = c.args.directives.now in
     let o = c.args.octets.now in
-    let h = held_whole _ _ _ _ c.in-Some.directive o c.hold-directive.result c.in-Some.ensures c.hold-directive.ensures.held in
+    let h = held_whole _ _ _ _ c.in-Some.directive o c.hold_directive.result c.in-Some.ensures c.hold_directive.ensures.held in
     record {
-      answer = directive_answer_lem q d c.hold-directive.new.queue c.hold-directive.new.directives o c.hold-directive.result c.is-ok.result c.is-ok.ensures.value c.requires.0 h;
-      queue = directive_queue q d c.hold-directive.new.queue c.hold-directive.new.directives o c.hold-directive.result c.is-ok.result c.is-ok.ensures.value c.requires.0 h;
+      answer = directive_answer_lem q d c.hold_directive.new.queue c.hold_directive.new.directives o c.hold_directive.result c.is_ok.result c.is_ok.ensures.value c.requires.0 h;
+      queue = directive_queue q d c.hold_directive.new.queue c.hold_directive.new.directives o c.hold_directive.result c.is_ok.result c.is_ok.ensures.value c.requires.0 h;
     }

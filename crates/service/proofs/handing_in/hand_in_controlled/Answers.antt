@@ -11,13 +11,13 @@ use Rattle.end.proofs.Fitting.{each, sender_counts}
 use Rattle.service.proofs.Joining.{granted, handed}
 use Rattle.service.proofs.handing_in.hand_in_controlled.Goals as goal
 
-pub returns-in-err-count : goal.returns-in-err-count
-returns-in-err-count c =
+pub returns-in_err-count : goal.returns-in_err-count
+returns-in_err-count c =
     let e = c.args.end.now in
     let m = c.args.memory.now in
     let x : UnitValue = record { port = c.args.port; quality = SequenceControlled; octets = c.args.octets.now } in
-    let f = c.in-err-count.field-0.0 in
-    let h = c.in-err-count.ensures.held in
+    let f = c.in_err-count.field-0.0 in
+    let h = c.in_err-count.ensures.held in
     let a = units_answer e.sequence m.sequence x (Err f) (each e m c.requires).sequence h.answer in
     let y = err_from_is_err_and c.from-residual.result c.from-residual.ensures.1 in
     rw (y.1, y.2)
@@ -31,8 +31,8 @@ returns c =
     let e = c.args.end.now in
     let m = c.args.memory.now in
     let x : UnitValue = record { port = c.args.port; quality = SequenceControlled; octets = c.args.octets.now } in
-    let n = c.in-ok-count.count in
-    let h = c.in-ok-count.ensures.held in
+    let n = c.in_ok-count.count in
+    let h = c.in_ok-count.ensures.held in
     let a = units_answer e.sequence m.sequence x (Ok n) (each e m c.requires).sequence h.answer in
     let counted : ℕ → SenderValue = λ k. record { count = k; base = e.sender.base; out = e.sender.out; at = e.sender.at; window = e.sender.window; expedited = e.sender.expedited } in
     let more : n ≡ e.sender.count + 1 = granted (is_unit x) (has_place (model e m).sequence) n _ a ∙ ap (λ k. k + 1) (sender_counts e m c.requires) in

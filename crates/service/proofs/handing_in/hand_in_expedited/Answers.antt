@@ -10,13 +10,13 @@ use Rattle.end.proofs.Fitting.{each}
 use Rattle.service.proofs.Joining.{handed}
 use Rattle.service.proofs.handing_in.hand_in_expedited.Goals as goal
 
-pub returns-in-err-count : goal.returns-in-err-count
-returns-in-err-count c =
+pub returns-in_err-count : goal.returns-in_err-count
+returns-in_err-count c =
     let e = c.args.end.now in
     let m = c.args.memory.now in
     let x : UnitValue = record { port = c.args.port; quality = Expedited; octets = c.args.octets.now } in
-    let f = c.in-err-count.field-0.0 in
-    let h = c.in-err-count.ensures.held in
+    let f = c.in_err-count.field-0.0 in
+    let h = c.in_err-count.ensures.held in
     let a = units_answer e.expedited m.expedited x (Err f) (each e m c.requires).expedited h.answer in
     let y = err_from_is_err_and c.from-residual.result c.from-residual.ensures.1 in
     rw (y.1, y.2)
@@ -30,8 +30,8 @@ returns c =
     let e = c.args.end.now in
     let m = c.args.memory.now in
     let x : UnitValue = record { port = c.args.port; quality = Expedited; octets = c.args.octets.now } in
-    let n = c.in-ok-count.count in
-    let h = c.in-ok-count.ensures.held in
+    let n = c.in_ok-count.count in
+    let h = c.in_ok-count.ensures.held in
     let a = units_answer e.expedited m.expedited x (Ok n) (each e m c.requires).expedited h.answer in
     came
     (handed (fits e m) (model e m) x (model e m).expedited (joins_expedited (model e m) x) (Ok n) c.requires refl a)

@@ -6,4 +6,4 @@ first_then : (x : ℕ) (o q : List ℕ) → take (length o + 1) (x ∷ (o ++ q))
 first_then x o q = rw (add-one (length o)) (ap (λ l. x ∷ l) (take_at o q (length o) refl))
 
 pub returns : goal.returns
-returns c = simp c.copy-from-slice.ensures.after (first_then c.args.header c.args.octets.now _)
+returns c = simp c.copy_from_slice.ensures.after (first_then c.args.header c.args.octets.now _)

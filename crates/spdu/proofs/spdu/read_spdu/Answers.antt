@@ -10,8 +10,8 @@ returns-in-Field c =
     let o = c.args.octets.now in
     let s = variable c.in-Field.kind c.in-Field.field.now in
     let opens : opened o ≡ Ok (holds_field c.in-Field.kind c.in-Field.field.now) =
-    sym c.open-spdu.ensures ∙ ap content_seen (c.in-ok-octets.was ∙ ap Ok c.in-Field.is)
+    sym c.open_spdu.ensures ∙ ap content_seen (c.in_ok-octets.was ∙ ap Ok c.in-Field.is)
     in
-    let ends : (reading o).ends ≡ Ok tt = sym c.check-spdu.ensures ∙ c.in-ok-check-spdu.was in
+    let ends : (reading o).ends ≡ Ok tt = sym c.check_spdu.ensures ∙ c.in_ok-check_spdu.was in
     let read : read_spdu o ≡ Ok s = ap (λ r. carry r (λ _. carry (opened o) content_read)) ends ∙ ap (λ k. carry k content_read) opens in
-    record { answer = sym read; undone = writing_undoes o s (λ i. omega (arith, c.type-inv.octets i)) read; few = few o s read }
+    record { answer = sym read; undone = writing_undoes o s (λ i. omega (arith, c.type_inv.octets i)) read; few = few o s read }

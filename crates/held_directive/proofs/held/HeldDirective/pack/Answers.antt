@@ -12,4 +12,4 @@ packed o x rest few same =
     ∙ sym (ap (λ t. cond {A = Option (List ℕ)} t (Some o) None) (le-leb (length o) 16 few))
 
 pub returns : goal.returns
-returns c = packed c.args.octets.now c.copy-from-slice.new.self _ (omega arith) c.copy-from-slice.ensures.after
+returns c = packed c.args.octets.now c.copy_from_slice.new.self _ (omega arith) c.copy_from_slice.ensures.after

@@ -10,22 +10,22 @@ use Rattle.octet_line.proofs.ring.calls.OctetLineLine.take.Goals as goal
 pub returns-then-buffer-lt2048 : goal.returns-then-buffer-lt2048
 returns-then-buffer-lt2048 c = record { line = takes_short (waiting_in c.args.self.now) c.args.buffer.now (octets_sound c.args.self.now) c.if-buffer-lt2048.true; memory = refl }
 
-pub read-round-requires : goal.read-round-requires
-read-round-requires c =
+pub read_round-requires : goal.read_round-requires
+read_round-requires c =
     let me = c.args.self.now in
     let room = me.room in
     let near = me.span.near in
     let limit = me.span.some in
     let some : 1 ≤ me.span.count = grind arith in
-    let n : c.first-length-count.result ≡ told (used_in me) = c.first-length-count.ensures ∙ size_is me some in
+    let n : c.first_length-count.result ≡ told (used_in me) = c.first_length-count.ensures ∙ size_is me some in
     let high = (ahead me some).high in
     record { place = omega (arith, c.after-from.ensures, place_below (2050 * me.span.limit) me.span.first 2 near (omega arith)); room = omega arith; short = omega arith }
 
-pub overflow-add-count : goal.overflow-add-count
-overflow-add-count c =
+pub overflow_add-count : goal.overflow_add-count
+overflow_add-count c =
     let me = c.args.self.now in
     let some : 1 ≤ me.span.count = grind arith in
-    let n : c.first-length-count.result ≡ told (used_in me) = c.first-length-count.ensures ∙ size_is me some in
+    let n : c.first_length-count.result ≡ told (used_in me) = c.first_length-count.ensures ∙ size_is me some in
     let high = (ahead me some).high in
     omega arith
 
@@ -33,16 +33,16 @@ pub shorter-self-requires : goal.shorter-self-requires
 shorter-self-requires c =
     let me = c.args.self.now in
     let some : 1 ≤ me.span.count = grind arith in
-    let n : c.first-length-count.result ≡ told (used_in me) = c.first-length-count.ensures ∙ size_is me some in
+    let n : c.first_length-count.result ≡ told (used_in me) = c.first_length-count.ensures ∙ size_is me some in
     let fits = taken_fits me some in
     record { some = some; fits = omega arith }
 
-pub invariant-of-self : goal.invariant-of-self
-invariant-of-self c =
+pub invariant_of-self : goal.invariant_of-self
+invariant_of-self c =
     let me = c.args.self.now in
     let is = c.shorter-self.ensures in
     let some : 1 ≤ me.span.count = grind arith in
-    let after = popped me c.first-length-count.result c.after-from.result _ _ _ _ some c.first-length-count.ensures c.after-from.ensures is.first is.used is.count is.limit in
+    let after = popped me c.first_length-count.result c.after-from.result _ _ _ _ some c.first_length-count.ensures c.after-from.ensures is.first is.used is.count is.limit in
     (after.room, (after.whole, tt))
 
 pub returns : goal.returns
@@ -50,11 +50,11 @@ returns c =
     let me = c.args.self.now in
     let is = c.shorter-self.ensures in
     let some : 1 ≤ me.span.count = grind arith in
-    let after = popped me c.first-length-count.result c.after-from.result _ _ _ _ some c.first-length-count.ensures c.after-from.ensures is.first is.used is.count is.limit in
-    let n : c.first-length-count.result ≡ told (used_in me) = c.first-length-count.ensures ∙ size_is me some in
-    let frame = take c.first-length-count.result (turned c.after-from.result (ring_of me)) in
+    let after = popped me c.first_length-count.result c.after-from.result _ _ _ _ some c.first_length-count.ensures c.after-from.ensures is.first is.used is.count is.limit in
+    let n : c.first_length-count.result ≡ told (used_in me) = c.first_length-count.ensures ∙ size_is me some in
+    let frame = take c.first_length-count.result (turned c.after-from.result (ring_of me)) in
     let room : length frame ≤ length c.args.buffer.now = omega (arith, after.size, n, (ahead me some).high, c.if-buffer-lt2048.false) in
     record {
-      line = takes_oldest (waiting_in me) _ c.args.buffer.now _ frame _ _ (octets_sound me) c.if-buffer-lt2048.false after.frames refl is.limit (c.read-round.ensures ∙ laid_first c.args.buffer.now frame room) after.size;
+      line = takes_oldest (waiting_in me) _ c.args.buffer.now _ frame _ _ (octets_sound me) c.if-buffer-lt2048.false after.frames refl is.limit (c.read_round.ensures ∙ laid_first c.args.buffer.now frame room) after.size;
       memory = refl;
     }

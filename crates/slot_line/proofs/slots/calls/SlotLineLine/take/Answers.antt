@@ -13,8 +13,8 @@ returns-then-buffer-lt2048 c =
     let sound = slots_sound (store_of me) (lengths_of me) m.first m.count m.limit me.room m.some m.most m.near m.few me.sizes in
     record { line = takes_short (waiting_in me) c.args.buffer.now sound c.if-buffer-lt2048.true; memory = record { store = refl; lengths = refl } }
 
-pub read-slot-requires : goal.read-slot-requires
-read-slot-requires c =
+pub read_slot-requires : goal.read_slot-requires
+read_slot-requires c =
     let me = c.args.self.now in
     let m = me.marks in
     let near = m.near in
@@ -24,8 +24,8 @@ read-slot-requires c =
     let size = first_size (lengths_of me) m.first m.count m.limit m.near some me.sizes in
     record { room = omega arith; near = omega arith }
 
-pub invariant-of-self : goal.invariant-of-self
-invariant-of-self c =
+pub invariant_of-self : goal.invariant_of-self
+invariant_of-self c =
     let me = c.args.self.now in
     let m = me.marks in
     let is = c.shorter-self.ensures in
@@ -46,6 +46,6 @@ returns c =
     let sound = slots_sound s l m.first m.count m.limit me.room m.some m.most m.near m.few me.sizes in
     let room : length f ≤ length c.args.buffer.now = omega (arith, long, size.1, c.if-buffer-lt2048.false) in
     record {
-      line = takes_oldest (waiting_in me) _ c.args.buffer.now _ f _ _ sound c.if-buffer-lt2048.false (popped_slots s l _ _ _ _ _ _ m.near some m.few me.sizes is.first is.count is.limit) refl is.limit (c.read-slot.ensures ∙ laid_first c.args.buffer.now f room) (sym long);
+      line = takes_oldest (waiting_in me) _ c.args.buffer.now _ f _ _ sound c.if-buffer-lt2048.false (popped_slots s l _ _ _ _ _ _ m.near some m.few me.sizes is.first is.count is.limit) refl is.limit (c.read_slot.ensures ∙ laid_first c.args.buffer.now f room) (sym long);
       memory = record { store = refl; lengths = refl };
     }
