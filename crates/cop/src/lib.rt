@@ -4,6 +4,7 @@
 //! new ones, so a caller that could not put its frame on the line simply keeps the old ones. Neither machine knows of
 //! octets, memory or lines.
 #![tactic(auto)]
+
 pub mod number;
 pub mod receiver;
 pub mod receiving;

@@ -4,6 +4,7 @@
 //! name, then whether the octets end inside the directive, then reserved codes and spare bits, then ranges. Reading
 //! and writing undo each other, octet for octet.
 #![tactic(auto)]
+
 pub mod directive;
 pub mod fault;
 pub mod link;

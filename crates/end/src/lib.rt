@@ -5,6 +5,7 @@
 //! its model, and each call is one definition over that model: its answer, and what changes. The calls themselves are
 //! in the crates `service` (handing in and collecting), `sending` and `receiving`.
 #![tactic(auto)]
+
 pub mod address;
 pub mod end;
 pub mod fault;

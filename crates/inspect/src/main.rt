@@ -3,6 +3,7 @@
 //! The input is read in chunks of one size and each line is told of as it ends, so that memory grows neither with the
 //! recording nor with a line.
 #![tactic(auto)]
+
 mod frames;
 mod hexadecimal;
 mod inspector;

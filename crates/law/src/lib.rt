@@ -4,5 +4,6 @@
 //! memory comes into it. A call is a step, made of the definitions that the calls of an end promise; a history is the
 //! list of what was called and answered; and what is counted, is counted from the history alone.
 #![tactic(auto)]
+
 pub mod law;
 pub mod side;

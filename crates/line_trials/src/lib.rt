@@ -1,5 +1,6 @@
 //! The base lines and the fade layer, run: frames go from one kind of line to the other, with and without losses.
 #![tactic(auto)]
+
 use line::fade::Fade;
 use line::fault::LineFault;
 use line::line::Line;

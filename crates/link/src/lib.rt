@@ -4,6 +4,7 @@
 //! touch the ends, their memory and the lines. Each call promises what it answers and what every octet of the memory
 //! holds after it, and besides that it is a step of the link which stands under the law.
 #![tactic(auto)]
+
 pub mod calls;
 pub mod fault;
 pub mod link;

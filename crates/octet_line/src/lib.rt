@@ -2,4 +2,5 @@
 //!
 //! It never loses a frame. A frame that comes to the ring's end goes on at its start, so no octet is wasted or moved.
 #![tactic(auto)]
+
 pub mod ring;

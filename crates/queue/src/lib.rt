@@ -5,6 +5,7 @@
 //! of queue holds elements of any type that is `Copy`, and nothing is allocated. Adding and looking touch one
 //! element, and freeing reads just the elements that leave, however many are queued.
 #![tactic(auto)]
+
 pub mod calls;
 pub mod fault;
 pub mod queue;

@@ -1,5 +1,6 @@
 //! Queues, run: units through a small table and store, and directives through a small table.
 #![tactic(auto)]
+
 use frame::header::Quality;
 use held_directive::held::HeldDirective;
 use queue::fault::QueueFault;

@@ -5,6 +5,7 @@
 //! buffer; a unit is copied once, into the delivered store. A frame that is refused has left the line and lies in the
 //! buffer, and the end stays as it was.
 #![tactic(auto)]
+
 pub mod arrival;
 pub mod hearing;
 pub mod turn;

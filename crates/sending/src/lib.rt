@@ -4,5 +4,6 @@
 //! once, in the turn itself, straight from where the unit lies; no buffer is asked of the caller. If the line refuses
 //! the frame, the end stays as it was.
 #![tactic(auto)]
+
 pub mod frames;
 pub mod turn;

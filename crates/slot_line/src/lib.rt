@@ -2,4 +2,5 @@
 //!
 //! It never loses a frame. The slots are used round and round, so putting and taking copy one frame and move nothing.
 #![tactic(auto)]
+
 pub mod slots;
