@@ -1,7 +1,7 @@
 -- The refusals of the layer of supervisory units.
 use Rattle.std.specs.Prelude.{ℕ}
-use Rattle.fault.specs.Place.{Place, place}
-use Rattle.fault.specs.declared.Layer.TheVariants.{Spdu}
+use Rattle.refusal.specs.Place.{Place, place}
+use Rattle.refusal.specs.declared.Layer.TheVariants.{Spdu}
 use Rattle.directive.specs.declared.fault.SpduFault.{SpduFault}
 use Rattle.directive.specs.declared.fault.SpduFault.TheVariants.{Length, Kind, Cut, Reserved, Range, TooWide, Buffer}
 

@@ -1,7 +1,7 @@
 //! What the layer of supervisory units refuses.
 ghost use Rattle.directive.specs.Fault.{spdu_fault};
 
-use fault::{Fault, Layer};
+use refusal::{Fault, Layer};
 use std::fmt;
 
 /// Why octets are no supervisory unit, or why one cannot be written. Octets count from 0 in the unit.

@@ -1,6 +1,6 @@
 -- The refusals of an end.
-use Rattle.fault.specs.Place.{Place, place}
-use Rattle.fault.specs.declared.Layer.TheVariants as layer
+use Rattle.refusal.specs.Place.{Place, place}
+use Rattle.refusal.specs.declared.Layer.TheVariants as layer
 use Rattle.directive.specs.Fault.{spdu_fault}
 use Rattle.directive.specs.declared.fault.SpduFault.{SpduFault}
 use Rattle.frame.specs.Fault.{frame_fault}

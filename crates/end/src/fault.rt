@@ -3,7 +3,7 @@ ghost use Rattle.std.specs.Prelude.{◌≡◌};
 ghost use Rattle.end.specs.Fault.{end_fault, of_frame, of_line, of_queue, of_spdu, of_unit};
 
 use directive::fault::SpduFault;
-use fault::{Fault, Layer};
+use refusal::{Fault, Layer};
 use frame::fault::FrameFault;
 use line::fault::LineFault;
 use queue::fault::QueueFault;

@@ -1,7 +1,7 @@
 -- The refusals of the frame layer.
 use Rattle.std.specs.Prelude.{ℕ}
-use Rattle.fault.specs.Place.{Place, place}
-use Rattle.fault.specs.declared.Layer.TheVariants.{Frame}
+use Rattle.refusal.specs.Place.{Place, place}
+use Rattle.refusal.specs.declared.Layer.TheVariants.{Frame}
 use Rattle.frame.specs.declared.fault.FrameFault.{FrameFault}
 use Rattle.frame.specs.declared.fault.FrameFault.TheVariants.{Size, Version, Length, NoData, Construction, TooWide, Buffer}
 

@@ -1,7 +1,7 @@
 //! What the frame layer refuses.
 ghost use Rattle.frame.specs.Fault.{frame_fault};
 
-use fault::{Fault, Layer};
+use refusal::{Fault, Layer};
 use std::fmt;
 
 /// Why octets are no frame, or why a frame cannot be written.

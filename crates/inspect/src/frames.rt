@@ -2,7 +2,7 @@
 use super::names::{construction_name, id_of_name, kind_name, octets_name, quality_name};
 use super::refusals::print_refusal;
 use super::units::print_unit;
-use fault::Fault;
+use refusal::Fault;
 use frame::frame::{Frame, read_frame};
 use frame::header::Kind;
 use inspection::rewriting::frame_is;

@@ -1,6 +1,6 @@
 //! The words for the values of fields.
 use directive::link::{Coding, Duplex, Modulation};
-use fault::Layer;
+use refusal::Layer;
 use frame::header::{Construction, IdOf, Kind, Quality};
 
 pub(crate) fn quality_name(quality: Quality) -> &'static str {

@@ -1,6 +1,6 @@
 //! The text of a refusal.
 use super::names::layer_name;
-use fault::Fault;
+use refusal::Fault;
 use std::fmt::Display;
 use std::io;
 

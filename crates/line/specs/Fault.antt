@@ -1,7 +1,7 @@
 -- The refusals of a line.
 use Rattle.std.specs.Prelude.{ℕ}
-use Rattle.fault.specs.Place.{Place, place}
-use Rattle.fault.specs.declared.Layer.TheVariants.{Line}
+use Rattle.refusal.specs.Place.{Place, place}
+use Rattle.refusal.specs.declared.Layer.TheVariants.{Line}
 use Rattle.line.specs.declared.fault.LineFault.{LineFault}
 use Rattle.line.specs.declared.fault.LineFault.TheVariants.{FrameSize, Full, Memory, Limit}
 

@@ -1,7 +1,7 @@
 //! What a line refuses.
 ghost use Rattle.line.specs.Fault.{line_fault};
 
-use fault::{Fault, Layer};
+use refusal::{Fault, Layer};
 use std::fmt;
 
 /// Why a line, or the making of one, refuses.

@@ -1,7 +1,7 @@
 -- The refusals of a link.
 use Rattle.std.specs.Prelude.{Ok, Err, Result}
-use Rattle.fault.specs.Place.{Place, place}
-use Rattle.fault.specs.declared.Layer.TheVariants as layer
+use Rattle.refusal.specs.Place.{Place, place}
+use Rattle.refusal.specs.declared.Layer.TheVariants as layer
 use Rattle.end.specs.Fault.{end_fault}
 use Rattle.end.specs.declared.fault.EndFault.{EndFault}
 use Rattle.law.specs.declared.side.Side.{Side}

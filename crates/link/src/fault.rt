@@ -3,7 +3,7 @@ ghost use Rattle.std.specs.Prelude.{◌≡◌};
 ghost use Rattle.link.specs.Fault.{link_fault, of_sided};
 
 use end::fault::EndFault;
-use fault::{Fault, Layer};
+use refusal::{Fault, Layer};
 use law::side::Side;
 use std::fmt;
 use std::fmt::{Debug, Display};

@@ -1,6 +1,6 @@
 -- The refusals of a queue.
-use Rattle.fault.specs.Place.{Place, place}
-use Rattle.fault.specs.declared.Layer.TheVariants.{End}
+use Rattle.refusal.specs.Place.{Place, place}
+use Rattle.refusal.specs.declared.Layer.TheVariants.{End}
 use Rattle.queue.specs.declared.fault.QueueFault.{QueueFault}
 use Rattle.queue.specs.declared.fault.QueueFault.TheVariants.{Full, Table}
 

@@ -11,7 +11,7 @@ use super::ring::Ring;
 // The octets of the elements of a part of a table.
 fn octets_in<T: Octets>(part: &[T]) -> usize
     requires { length part.now ≤ largest_table }
-    ensures sum { result ≡ sum_by octets part.now }
+    ensures sum { result ≡ sum_by T.octets part.now }
     ensures small { result ≤ most_octets * largest_table }
 {
     let mut sum: usize = 0;
@@ -24,7 +24,7 @@ fn octets_in<T: Octets>(part: &[T]) -> usize
 // The octets of the first n elements. They lie in one part of the table, or in two where they go past its end.
 fn octets_of_first<T: Octets>(ring: Ring, table: &[T], n: usize) -> usize
     requires { (Sound ring) × ((length table.now ≡ ring.size) × (n ≤ ring.count)) }
-    ensures { result ≡ sum_by octets (take n (queued ring table.now)) }
+    ensures { result ≡ sum_by T.octets (take n (queued ring table.now)) }
 {
     let first = ring.first;
     let size = ring.size;
@@ -74,7 +74,7 @@ impl Queue {
 
     /// Whether the table has the size that the queue was made for.
     pub fn fits<T: Octets>(&self, table: &[T]) -> bool
-        ensures { Fitted octets self.now table.now result }
+        ensures { Fitted T.octets self.now table.now result }
     {
         table.len() == self.ring.size
     }
@@ -91,7 +91,7 @@ impl Queue {
     /// Adds x behind the others, and answers how many there are then.
     pub fn add<T: Copy + Octets>(&mut self, table: &mut [T], x: T) -> Result<usize, QueueFault>
         ensures added { Added self.old.ring table.old x result self.new.ring table.new }
-        ensures tied { Tied octets self.old table.old → Tied octets self.new table.new }
+        ensures tied { Tied T.octets self.old table.old → Tied T.octets self.new table.new }
         ensures kept { is_ok result ≡ false → self.new ≡ self.old }
     {
         if table.len() != self.ring.size {
@@ -114,7 +114,7 @@ impl Queue {
     /// that leave, for their octets, and no other.
     pub fn free<T: Octets>(&mut self, table: &[T], n: usize) -> Result<usize, QueueFault>
         ensures freed { Freed self.old.ring table.now n result self.new.ring }
-        ensures tied { Tied octets self.old table.now → Tied octets self.new table.now }
+        ensures tied { Tied T.octets self.old table.now → Tied T.octets self.new table.now }
         ensures kept { is_ok result ≡ false → self.new ≡ self.old }
     {
         if table.len() != self.ring.size {

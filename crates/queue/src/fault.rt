@@ -1,7 +1,7 @@
 //! What a queue refuses.
 ghost use Rattle.queue.specs.Fault.{queue_fault};
 
-use fault::{Fault, Layer};
+use refusal::{Fault, Layer};
 use std::fmt;
 
 /// Why a queue was not made, or was not changed.

@@ -1,6 +1,6 @@
 -- The refusals of units.
-use Rattle.fault.specs.Place.{Place, place}
-use Rattle.fault.specs.declared.Layer.TheVariants.{End}
+use Rattle.refusal.specs.Place.{Place, place}
+use Rattle.refusal.specs.declared.Layer.TheVariants.{End}
 use Rattle.unit.specs.declared.fault.UnitFault.{UnitFault}
 use Rattle.unit.specs.declared.fault.UnitFault.TheVariants.{Unit, Full, Memory}
 

@@ -1,7 +1,7 @@
 //! What queueing a unit refuses.
 ghost use Rattle.unit.specs.Fault.{unit_fault};
 
-use fault::{Fault, Layer};
+use refusal::{Fault, Layer};
 use std::fmt;
 
 /// Why a unit is not queued, or not copied out.

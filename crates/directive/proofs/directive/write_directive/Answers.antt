@@ -20,7 +20,7 @@ returns-in_err-read_directive c =
     let d = c.args.directive in
     let told = some_tells (directive_fits d) (directive_word d) c.in-Some.word c.in-Some.ensures in
     let o = own_slice d c.in-Some.word c.octets_of-all.result c.size.result told.1 c.octets_of-all.ensures (c.size.ensures ∙ ap size_of c.name_for.ensures) in
-    let p = err_from_is_err_and c.from-residual.result c.from-residual.ensures.1 in
+    let p = err_from_is_err_and c.from_residual.result c.from_residual.ensures.1 in
     let e : read_directive (directive_octets d) ≡ Err c.in_err-read_directive.field-0.0 = ap read_directive (sym o) ∙ sym c.read_directive.ensures.answer ∙ c.in_err-read_directive.was in
     let r = no_encoding fault.Buffer c.in_err-read_directive.field-0.0 (encoded_directive d) c.args.buffer.now (unreadable fault.TooWide (directive_fits d) (directive_octets d) (read_directive (directive_octets d)) c.in_err-read_directive.field-0.0 told.0 e) in
     rw (p.1 ∙ ap Err p.2) (record { answer = r.answer; after = r.after; undone = tt })

@@ -12,7 +12,7 @@ returns-in_err-frame c = search rules
 
 pub returns-in_err-check_address : goal.returns-in_err-check_address
 returns-in_err-check_address c =
-    let y = err_from_is_err_and c.from-residual-in_err-check_address.result c.from-residual-in_err-check_address.ensures.1 in
+    let y = err_from_is_err_and c.from_residual-in_err-check_address.result c.from_residual-in_err-check_address.ensures.1 in
     rw (y.1, y.2) (not_addressed (address_value c.args.address) c.args.octets.now (frame_value c.in_ok-frame.frame) _ c.in_ok-frame.ensures.answer c.in_err-check_address.ensures)
 
 pub returns-in-User : goal.returns-in-User

@@ -5,7 +5,7 @@ use Rattle.receiving.proofs.turn.turn.Goals as goal
 
 pub returns-in_err-heard : goal.returns-in_err-heard
 returns-in_err-heard g c =
-    let y = err_from_is_err_and c.from-residual-in_err-heard.result c.from-residual-in_err-heard.ensures.1 in
+    let y = err_from_is_err_and c.from_residual-in_err-heard.result c.from_residual-in_err-heard.ensures.1 in
     rw (y.1, y.2) (heard c.args.end.now c.args.memory.now _ _ c.args.buffer.now c.take.new.buffer (sym c.if-not-fits.ensures) c.take.result c.take.ensures c.in-Some.count (c.in_ok-take.was ∙ ap Ok c.in-Some.is)
     (Err c.in_err-heard.field-0.0) _ _ c.in_err-heard.ensures)
 

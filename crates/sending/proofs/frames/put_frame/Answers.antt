@@ -19,7 +19,7 @@ returns-in_err-put g c =
     let n = counts f c.requires _ _ refl _ c.write_frame.ensures.answer c.write_frame.ensures.after _ c.in_ok-count.was in
     let count : c.in_ok-count.count - 0 ≡ length (frame_octets f) = omega arith in
     let whole = ap (λ k. take k c.write_frame.new.buffer) count ∙ written_first f c.requires _ _ refl _ c.write_frame.ensures.answer c.write_frame.ensures.after in
-    let y = err_from_is_err_and c.from-residual-in_err-put.result c.from-residual-in_err-put.ensures.1 in
+    let y = err_from_is_err_and c.from_residual-in_err-put.result c.from_residual-in_err-put.ensures.1 in
     rw (y.1, y.2) (turned_away (g.L.Line.loses c.args.line.now) f _ _ _ whole c.in_err-put.field-0.0 c.in_err-put.ensures)
 
 pub returns : goal.returns

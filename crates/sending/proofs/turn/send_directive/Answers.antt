@@ -13,7 +13,7 @@ returns-in_err-free_directives g c = absurd (directives_let_go c.args.end.now.ou
 
 pub returns-in_err-put_directive : goal.returns-in_err-put_directive
 returns-in_err-put_directive g c =
-    let y = err_from_is_err_and c.from-residual-in_err-put_directive.result c.from-residual-in_err-put_directive.ensures.1 in
+    let y = err_from_is_err_and c.from_residual-in_err-put_directive.result c.from_residual-in_err-put_directive.ensures.1 in
     rw (y.1, y.2) (stayed (directive_goes (model c.args.end.now c.args.memory.now)) _ refl _ _ _ _ _ _ c.in_err-put_directive.ensures)
 
 pub returns : goal.returns

@@ -13,7 +13,7 @@ returns-in_err-free_units g c = absurd (units_let_go c.args.end.now.expedited c.
 
 pub returns-in_err-put_unit : goal.returns-in_err-put_unit
 returns-in_err-put_unit g c =
-    let y = err_from_is_err_and c.from-residual-in_err-put_unit.result c.from-residual-in_err-put_unit.ensures.1 in
+    let y = err_from_is_err_and c.from_residual-in_err-put_unit.result c.from_residual-in_err-put_unit.ensures.1 in
     rw (y.1, y.2) (stayed (expedited_goes (model c.args.end.now c.args.memory.now)) _ refl _ _ _ _ _ _ c.in_err-put_unit.ensures)
 
 pub returns : goal.returns

@@ -9,7 +9,7 @@ use Rattle.sending.proofs.turn.send_report.Goals as goal
 
 pub returns-in_err-put_report : goal.returns-in_err-put_report
 returns-in_err-put_report g c =
-    let y = err_from_is_err_and c.from-residual.result c.from-residual.ensures.1 in
+    let y = err_from_is_err_and c.from_residual.result c.from_residual.ensures.1 in
     rw (y.1, y.2) (stayed (report_goes (model c.args.end.now c.args.memory.now)) _ refl _ _ _ _ _ _ c.in_err-put_report.ensures)
 
 pub returns : goal.returns

@@ -15,7 +15,7 @@ returns-in_err-put_unit g c =
     let e = c.args.end.now in
     let m = c.args.memory.now in
     let t = c.turn-turn.result in
-    let y = err_from_is_err_and c.from-residual.result c.from-residual.ensures.1 in
+    let y = err_from_is_err_and c.from_residual.result c.from_residual.ensures.1 in
     rw (y.1, y.2)
     (by_turn (model e m) (turn_value t) (sender_turn (sender_value e.sender)) c.turn-turn.ensures.answer
     (stayed (sequence_goes (model e m) (turn_value t)) _ (sequence_frame e m t c.number_at-number.result c.in_default.not-Idle c.number_at-number.ensures) _ _ _ _ _ _ c.in_err-put_unit.ensures))

@@ -18,7 +18,7 @@ returns-in_err-note c =
     let f = c.in_err-note.field-0.0 in
     let fit = sym c.if-not-fits.ensures in
     let h = c.in_err-note.ensures in
-    let y = err_from_is_err_and c.from-residual.result c.from-residual.ensures.1 in
+    let y = err_from_is_err_and c.from_residual.result c.from_residual.ensures.1 in
     rw (y.1, y.2) (record {
       comes = came (units_taken (fits e m) e.delivered m.delivered (model e m) (leaves_delivered (model e m)) b _ (Err f) fit (each e m fit).delivered h) refl (unchanged (of_unit f) e m m (units_stay _ _) (units_stay _ _) (units_stay _ _) (directives_stay _ _) (directives_stay _ _));
       shown = units_after_lem e.delivered m.delivered b _ (Err f) (Err (of_unit f)) refl h;

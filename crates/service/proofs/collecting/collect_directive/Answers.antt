@@ -18,7 +18,7 @@ returns-in_err-count c =
     let f = c.in_err-count.field-0.0 in
     let fit = sym c.if-not-fits.ensures in
     let h = c.in_err-count.ensures in
-    let y = err_from_is_err_and c.from-residual.result c.from-residual.ensures.1 in
+    let y = err_from_is_err_and c.from_residual.result c.from_residual.ensures.1 in
     rw (y.1, y.2) (record {
       comes = came (directives_taken (fits e m) e.heard m.heard (model e m) (leaves_heard (model e m)) b _ (Err f) fit (each e m fit).heard h) refl (unchanged (of_queue f) e m m (units_stay _ _) (units_stay _ _) (units_stay _ _) (directives_stay _ _) (directives_stay _ _));
       shown = directives_after_lem e.heard m.heard b _ (Err f) (Err (of_queue f)) refl h;

@@ -19,7 +19,7 @@ returns-in_err-count c =
     let f = c.in_err-count.field-0.0 in
     let h = c.in_err-count.ensures.held in
     let a = units_answer e.sequence m.sequence x (Err f) (each e m c.requires).sequence h.answer in
-    let y = err_from_is_err_and c.from-residual.result c.from-residual.ensures.1 in
+    let y = err_from_is_err_and c.from_residual.result c.from_residual.ensures.1 in
     rw (y.1, y.2)
     (came
     (handed (fits e m) (model e m) x (model e m).sequence (joins_sequence (model e m) x) (Err f) c.requires refl a)

@@ -19,7 +19,7 @@ returns-in_err-count c =
     let f = c.in_err-count.field-0.0 in
     let h = held_whole _ _ _ _ c.in-Some.directive o (Err f) c.in-Some.ensures c.in_err-count.ensures.held in
     let a = directives_answer e.out m.out (Err f) (each e m fit).out h.answer in
-    let y = err_from_is_err_and c.from-residual-in_err-count.result c.from-residual-in_err-count.ensures.1 in
+    let y = err_from_is_err_and c.from_residual-in_err-count.result c.from_residual-in_err-count.ensures.1 in
     rw (y.1, y.2)
     (came
     (handed_directive (fits e m) (model e m) o _ _ _ (Err f) fit c.in_ok-read_spdu.ensures.answer (ap spdu_value c.in-Variable.is) a)

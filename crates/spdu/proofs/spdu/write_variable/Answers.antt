@@ -19,7 +19,7 @@ returns-in_err-read_spdu c =
     in
     let told_fault = c.in_err-read_spdu.field-0.0 in
     let read : read_spdu (spdu_octets s) ≡ Err told_fault = ap read_spdu (sym own) ∙ sym c.read_spdu.ensures.answer ∙ ap spdu_seen c.in_err-read_spdu.was in
-    let p = err_from_is_err_and c.from-residual.result c.from-residual.ensures.1 in
+    let p = err_from_is_err_and c.from_residual.result c.from_residual.ensures.1 in
     let r = no_encoding fault.Buffer told_fault (encoded_spdu s) c.args.buffer.now (unreadable fault.TooWide (spdu_fits s) (spdu_octets s) (read_spdu (spdu_octets s)) told_fault told.0 read) in
     rw (p.1 ∙ ap Err p.2) (record { answer = r.answer; after = r.after; undone = tt })
 

@@ -1,6 +1,6 @@
 -- What a fault answers of itself.
 use Rattle.std.specs.Prelude.{ℕ}
-use Rattle.fault.specs.declared.Layer.{Layer}
+use Rattle.refusal.specs.declared.Layer.{Layer}
 
 -- the number of the refusal, the layer that refused, and the octet where the fault lies, counted from 0
 pub record Place : Type 0 where

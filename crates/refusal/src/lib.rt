@@ -5,7 +5,7 @@
 #![tactic(auto)]
 
 ghost use Rattle.std.specs.Prelude.{◌≡◌};
-ghost use Rattle.fault.specs.Place.{Place};
+ghost use Rattle.refusal.specs.Place.{Place};
 
 /// The layer that refused.
 #[derive(Clone, Copy, PartialEq, Eq, Debug)]
