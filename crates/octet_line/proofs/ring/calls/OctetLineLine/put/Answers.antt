@@ -33,7 +33,7 @@ pub invariant_of-self : goal.invariant_of-self
 invariant_of-self c =
     let is = c.longer-self.ensures in
     let after = grown c.args.self.now c.args.frame.now _ _ _ _ _ (c.if-count-lt5.false, c.if-count-gt2048.false) c.add_frame.ensures.room c.add_frame.ensures.octets is.first is.used is.count is.limit in
-    (after.room, (after.whole, tt))
+    record { room = after.room; whole = after.whole }
 
 pub returns : goal.returns
 returns c =

@@ -43,7 +43,7 @@ invariant_of-self c =
     let is = c.shorter-self.ensures in
     let some : 1 ≤ me.span.count = grind arith in
     let after = popped me c.first_length-count.result c.after-from.result _ _ _ _ some c.first_length-count.ensures c.after-from.ensures is.first is.used is.count is.limit in
-    (after.room, (after.whole, tt))
+    record { room = after.room; whole = after.whole }
 
 pub returns : goal.returns
 returns c =

@@ -24,7 +24,7 @@ invariant_of-self c =
     let is = c.longer-self.ensures in
     let few = m.few in
     let after = grown _ _ _ _ _ _ _ _ c.after-slot.result _ _ _ me.room me.table m.near (grind arith) c.if-count-lt5.false c.if-count-gt2048.false me.sizes c.after-slot.ensures c.fill_slot.ensures.store c.fill_slot.ensures.lengths is.first is.count is.limit in
-    (after.room, (after.table, (after.sizes, tt)))
+    record { room = after.room; table = after.table; sizes = after.sizes }
 
 pub returns : goal.returns
 returns c =

@@ -30,7 +30,11 @@ invariant_of-self c =
     let m = me.marks in
     let is = c.shorter-self.ensures in
     let some : 1 ≤ m.count = grind arith in
-    (me.room ∙ sym (rw is.limit refl), (me.table ∙ sym is.limit, (popped_sizes (store_of me) (lengths_of me) _ _ _ _ _ _ m.near some m.few me.sizes is.first is.count is.limit, tt)))
+    record {
+      room = me.room ∙ sym (rw is.limit refl);
+      table = me.table ∙ sym is.limit;
+      sizes = popped_sizes (store_of me) (lengths_of me) _ _ _ _ _ _ m.near some m.few me.sizes is.first is.count is.limit;
+    }
 
 pub returns : goal.returns
 returns c =
