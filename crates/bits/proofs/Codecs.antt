@@ -1,9 +1,9 @@
 -- What holds of reading and writing in any format.
-use Rattle.std.proofs.Common.{◌≡◌, ℕ, ◌<◌, ◌≤◌, Bool, true, false, cond, leb, List, ◌++◌, length, take, drop, IfOk, Some, None, Ok, Err, Option, Result, sym, refl, ap, ◌∙◌, arith}
+use Rattle.std.proofs.Common.{◌≡◌, ℕ, ◌<◌, ◌≤◌, Bool, true, false, cond, leb, List, length, take, drop, IfOk, Some, None, Ok, Err, Result, sym, refl, ap, ◌∙◌, arith}
 use Rattle.std.proofs.lemmas.List.{take_at}
 use Rattle.std.proofs.lemmas.Bool.{le-leb, lt-leb}
 use Rattle.std.specs.Option.{ok_or}
-use Rattle.bits.specs.Codec.{carry, encoding, beginning, put, put_answer, write_answer, written}
+use Rattle.bits.specs.Codec.{encoding, beginning, put, put_answer, write_answer, written}
 
 -- what an encoding that was granted says: the values fit, the octets are these, and reading them refuses nothing
 pub record Granted {V E : Type 0} (fit : Bool) (o : List ℕ) (read : Result V E) (p : List ℕ) : Type 0 where

@@ -1,7 +1,7 @@
 -- Shifts and masks as products, quotients and remainders, each over the width.
-use Rattle.std.proofs.Common.{◌≡◌, ℕ, zero, suc, ◌+◌, ◌-◌, ◌*◌, ◌/◌, ◌%◌, ◌^◌, ◌<◌, ◌≤◌, Bool, true, false, cond, ◌&&◌, ltb, leb, ◌⊎◌, List, [], ◌∷◌, map, length, replicate, Some, None, Option, sym, refl, ap, ◌∙◌, ⊎_elim, add-zero, mod-eq_of_lt, mul_assoc, add-mul, div-add-mod', mul_right_comm, arith, pow_pos, pow_mono, pow-add, shl_exact}
+use Rattle.std.proofs.Common.{◌≡◌, ℕ, ◌+◌, ◌-◌, ◌*◌, ◌/◌, ◌%◌, ◌^◌, ◌<◌, ◌≤◌, Bool, true, false, cond, ◌&&◌, ltb, leb, ◌⊎◌, List, [], ◌∷◌, length, Some, None, Option, sym, ap, ◌∙◌, ⊎_elim, add-zero, mod-eq_of_lt, mul_assoc, add-mul, div-add-mod', mul_right_comm, arith, pow_pos, pow_mono, pow-add, shl_exact}
 use native.Mathlib.Nat.{mul-add-mod_self_right, div-eq_of_lt}
-use lib.Bits.{bit_and, bit_or, and_mask, or_shifted}
+use lib.Bits.{bit_or, or_shifted}
 use lib.Pow.{mod-pow-add, shr_le, shl-shr, high, low}
 use Rattle.std.proofs.lemmas.Nat.{mul-add-lt, mod_below}
 use Rattle.std.proofs.lemmas.Bool.{cond-true, cond-false, cases_Bool}

@@ -1,5 +1,5 @@
 -- The fields of a directive and its record are the same.
-use Rattle.std.proofs.Common.{◌≡◌, ℕ, ◌+◌, ◌/◌, ◌%◌, ◌^◌, ◌<◌, ◌≤◌, Bool, true, false, cond, eqb, leb, List, [], ◌∷◌, get_or, Some, None, Ok, Err, Option, Result, sym, refl, ap, ◌∙◌, arith}
+use Rattle.std.proofs.Common.{◌≡◌, ℕ, ◌<◌, ◌≤◌, Bool, true, false, cond, eqb, leb, List, get_or, Some, None, Ok, Option, refl, ap, arith}
 use Rattle.std.proofs.lemmas.Bool.{eqb-true, leb-true}
 use Rattle.std.proofs.lemmas.Bool.Decides.{nat_tests}
 use Rattle.bits.specs.Layout.{cut}
@@ -17,7 +17,6 @@ use Rattle.directive.specs.declared.link.Modulation.{Modulation}
 use Rattle.directive.specs.declared.link.Modulation.TheVariants.{BiPhaseL, Gmsk}
 use Rattle.directive.specs.declared.link.Coding.{Coding}
 use Rattle.directive.specs.declared.link.Coding.TheVariants.{Uncoded, Ldpc2048, Ldpc6144, Ldpc8160}
-use Rattle.directive.specs.declared.fault.SpduFault.{SpduFault}
 
 flag_back : (b : Bool) → eqb (flag b) 1 ≡ b
 flag_back true = refl

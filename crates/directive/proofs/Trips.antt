@@ -1,14 +1,14 @@
 -- A directive survives both ways through its octets.
-use Rattle.std.proofs.Common.{◌≡◌, ℕ, suc, ◌+◌, ◌-◌, ◌*◌, ◌/◌, ◌%◌, ◌^◌, ◌<◌, ◌≤◌, Bool, true, false, cond, eqb, leb, List, [], ◌∷◌, length, get_or, take, drop, IfOk, Some, None, Ok, Err, Option, Result, sym, refl, ap, ◌∙◌, arith}
+use Rattle.std.proofs.Common.{◌≡◌, ℕ, ◌-◌, ◌/◌, ◌^◌, ◌<◌, Bool, true, false, cond, eqb, List, [], ◌∷◌, length, get_or, take, drop, IfOk, Some, None, Ok, Err, Option, Result, sym, refl, ap, ◌∙◌, arith}
 use Rattle.std.proofs.lemmas.List.{take_all, length-replicate}
-use Rattle.std.proofs.lemmas.Bool.{le-leb, eq-eqb, eqb-true, leb-true}
+use Rattle.std.proofs.lemmas.Bool.{le-leb, eq-eqb, eqb-true}
 use Rattle.std.proofs.lemmas.Bool.Decides.{nat_tests}
 use Rattle.bits.specs.Codec.{carry, encoding}
 use Rattle.bits.specs.Layout.{total, cut, join, fits, octets, number}
 use Rattle.bits.proofs.Codecs.{granted}
 use Rattle.bits.proofs.Layouts.{join_below, cut_undoes_join, join_undoes_cut, cut_fits, length_cut, number_cut, cut_number, number_octets, first_bits}
 use Rattle.directive.specs.Rule.{layout, judged}
-use Rattle.directive.specs.Directive.{name_of, rules_of, size_of, fields_in, named, front, whole, read_directive, directive_of, name_for, fields_for, layout_for, directive_fits, directive_word, directive_octets, encoded_directive}
+use Rattle.directive.specs.Directive.{name_of, rules_of, size_of, fields_in, front, whole, read_directive, directive_of, name_for, fields_for, directive_fits, directive_word, directive_octets, encoded_directive}
 use Rattle.directive.specs.declared.directive.Name.{Name}
 use Rattle.directive.specs.declared.directive.Name.TheVariants as name
 use Rattle.directive.specs.declared.directive.Directive.{Directive}

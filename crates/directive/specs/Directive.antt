@@ -8,7 +8,6 @@ use Rattle.directive.specs.declared.directive.Name.{Name}
 use Rattle.directive.specs.declared.directive.Name.TheVariants as name
 use Rattle.directive.specs.declared.directive.Directive.{Directive}
 use Rattle.directive.specs.declared.directive.Directive.TheVariants as directive
-use Rattle.directive.specs.declared.directive.ReportRequest.{ReportRequest}
 use Rattle.directive.specs.declared.fault.SpduFault.{SpduFault}
 use Rattle.directive.specs.declared.fault.SpduFault.TheVariants as fault
 

@@ -1,5 +1,4 @@
 -- The refusals of the layer of supervisory units.
-use Rattle.std.specs.Prelude.{ℕ}
 use Rattle.refusal.specs.Place.{Place, place}
 use Rattle.refusal.specs.declared.Layer.TheVariants.{Spdu}
 use Rattle.directive.specs.declared.fault.SpduFault.{SpduFault}

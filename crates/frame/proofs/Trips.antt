@@ -1,10 +1,10 @@
 -- A frame survives both ways through its octets.
-use Rattle.std.proofs.Common.{◌≡◌, ℕ, suc, ◌+◌, ◌-◌, ◌<◌, ◌≤◌, Bool, true, false, cond, ◌&&◌, eqb, ltb, leb, List, [], ◌∷◌, ◌++◌, length, get_or, take, drop, set, IfOk, Some, None, Ok, Err, Option, Result, sym, refl, ap, ◌∙◌, arith}
+use Rattle.std.proofs.Common.{◌≡◌, ℕ, suc, ◌+◌, ◌-◌, ◌<◌, ◌≤◌, Bool, true, false, cond, ◌&&◌, ltb, leb, List, [], ◌∷◌, ◌++◌, length, get_or, take, drop, set, IfOk, Some, None, Ok, Err, Option, Result, sym, refl, ap, ◌∙◌, arith}
 use borrow.Rule.Slice.PartMut.{put_mid}
 use Rattle.std.proofs.lemmas.Bool.{lt-ltb, le-ltb}
 use Rattle.std.proofs.lemmas.Bool.Decides.{nat_tests}
 use Rattle.bits.specs.Layout.{cut, join, fits, octets, number}
-use Rattle.bits.specs.Codec.{carry, encoding, beginning}
+use Rattle.bits.specs.Codec.{encoding, beginning}
 use Rattle.bits.proofs.Codecs.{granted}
 use Rattle.bits.proofs.Layouts.{join_below, cut_undoes_join, join_undoes_cut, cut_fits, octets_fit, front_octets}
 use Rattle.frame.specs.Header.{header_layout, header_fields, header_with, with_construction, header_of, allowed, quality_code, quality_of, kind_code, kind_of, construction_code, construction_of, id_code, id_of_bit}

@@ -1,5 +1,4 @@
 -- The refusals of the frame layer.
-use Rattle.std.specs.Prelude.{ℕ}
 use Rattle.refusal.specs.Place.{Place, place}
 use Rattle.refusal.specs.declared.Layer.TheVariants.{Frame}
 use Rattle.frame.specs.declared.fault.FrameFault.{FrameFault}

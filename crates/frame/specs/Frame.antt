@@ -1,5 +1,5 @@
 -- Frames by their octets.
-use Rattle.std.specs.Prelude.{◌≡◌, ℕ, ◌+◌, Bool, true, false, cond, ◌&&◌, List, [], ◌∷◌, ◌++◌, length, take, drop, Some, None, Ok, Err, Option, Result, ◌==◌, nat_le, nat_lt, slice_index}
+use Rattle.std.specs.Prelude.{ℕ, ◌+◌, cond, ◌&&◌, List, ◌++◌, length, take, drop, Some, None, Ok, Err, Option, Result, ◌==◌, nat_le, nat_lt, slice_index}
 use Rattle.bits.specs.Layout.{cut, join, fits, octets, number}
 use Rattle.bits.specs.Codec.{encoding}
 use Rattle.frame.specs.Header.{header_layout, version, header_fields, header_of}

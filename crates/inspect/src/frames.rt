@@ -2,11 +2,11 @@
 use super::names::{construction_name, id_of_name, kind_name, octets_name, quality_name};
 use super::refusals::print_refusal;
 use super::units::print_unit;
-use refusal::Fault;
 use frame::frame::{Frame, read_frame};
 use frame::header::Kind;
 use inspection::rewriting::frame_is;
 use inspection::summary::Summary;
+use refusal::Fault;
 use std::io;
 
 fn print_header(rt: &HostRuntime, line: u64, frame: Frame<'_>) -> io::Result<()> {

@@ -1,7 +1,7 @@
 //! The words for the values of fields.
 use directive::link::{Coding, Duplex, Modulation};
-use refusal::Layer;
 use frame::header::{Construction, IdOf, Kind, Quality};
+use refusal::Layer;
 
 pub(crate) fn quality_name(quality: Quality) -> &'static str {
     match quality {

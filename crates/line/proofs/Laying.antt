@@ -1,10 +1,10 @@
 -- What memory holds after octets were laid over it.
-use Rattle.std.proofs.Common.{◌≡◌, ℕ, ◌+◌, ◌≤◌, true, cond, List, ◌++◌, length, take, drop, sym, refl, ap, ◌∙◌, zero-add, arith, rules}
+use Rattle.std.proofs.Common.{◌≡◌, ℕ, ◌+◌, ◌≤◌, cond, List, ◌++◌, length, take, drop, refl, ap, ◌∙◌, zero-add, arith, rules}
 use borrow.Rule.Slice.PartMut.{put_mid}
 use Rattle.std.proofs.lemmas.List.{length-take-le, drop-drop, drop_at, take_at, same_lists, places}
 use Rattle.std.proofs.lemmas.Bool.{le-leb}
 use Rattle.bits.specs.Codec.{beginning}
-use Rattle.line.specs.Memory.{overlaid, laid, room_for}
+use Rattle.line.specs.Memory.{overlaid, laid}
 
 -- a write to a part of a slice lays octets over it
 pub part_written : (s ys f : List ℕ) (a k : ℕ) → ys ≡ f → k ≡ length f → put_mid a k s ys ≡ overlaid s a f

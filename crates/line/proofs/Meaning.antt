@@ -1,11 +1,11 @@
 -- How a line shows what putting and taking do to its meaning, and what a caller learns from it.
-use Rattle.std.proofs.Common.{◌≡◌, ℕ, ◌-◌, ◌<◌, ◌≤◌, Bool, true, false, cond, eqb, leb, ◌⊎◌, List, [], ◌∷◌, ◌++◌, length, take, drop, Some, None, Ok, Err, Option, Result, sym, refl, ap, ◌∙◌, inl, inr, ⊎_elim, arith}
+use Rattle.std.proofs.Common.{◌≡◌, ℕ, ◌-◌, ◌<◌, ◌≤◌, Bool, true, false, leb, List, [], ◌∷◌, ◌++◌, length, take, drop, Some, None, Ok, Err, Option, Result, refl, inl, arith}
 use Rattle.std.proofs.lemmas.List.{take_at}
 use Rattle.std.proofs.lemmas.Bool.{le-leb, lt-leb, eq-eqb, ne_eqb, and_from}
 use Rattle.bits.specs.Codec.{beginning}
 use Rattle.line.specs.declared.fault.LineFault.{LineFault}
-use Rattle.line.specs.declared.fault.LineFault.TheVariants.{FrameSize, Full, Memory}
-use Rattle.line.specs.Line.{Waiting, FrameSized, frame_sized, Sound, is_full, roomy, oldest, filled, put_answer, take_answer, Joins, Puts, Takes}
+use Rattle.line.specs.declared.fault.LineFault.TheVariants.{Full, Memory}
+use Rattle.line.specs.Line.{Waiting, FrameSized, frame_sized, Sound, roomy, Puts, Takes}
 use Rattle.line.specs.Transfer.{Transfers}
 
 sized : (f : List ℕ) → FrameSized f → frame_sized f ≡ true

@@ -1,5 +1,4 @@
 -- The refusals of a line.
-use Rattle.std.specs.Prelude.{ℕ}
 use Rattle.refusal.specs.Place.{Place, place}
 use Rattle.refusal.specs.declared.Layer.TheVariants.{Line}
 use Rattle.line.specs.declared.fault.LineFault.{LineFault}

@@ -1,9 +1,8 @@
 -- A ring of octets, read and written from a place on.
-use Rattle.std.proofs.Common.{◌≡◌, ℕ, zero, suc, ◌+◌, ◌-◌, ◌*◌, ◌<◌, ◌≤◌, min, true, false, cond, leb, ◌⊎◌, List, [], ◌∷◌, ◌++◌, length, get_or, take, drop, sym, refl, ap, ◌∙◌, subst, inl, inr, ⊎_elim, zero-add, arith, rules}
-use Rattle.std.proofs.lemmas.List.{append_assoc, drop-take, take-take, length-take, length-drop, length-append, get_or_append_left, get_or-append_right, get_or-drop, get_or-take, length-take-le, take-append-le, take_rest, same_lists, places}
+use Rattle.std.proofs.Common.{◌≡◌, ℕ, ◌+◌, ◌-◌, ◌<◌, ◌≤◌, false, leb, List, ◌++◌, length, get_or, take, drop, sym, refl, ap, ◌∙◌, subst, ⊎_elim, arith, rules}
+use Rattle.std.proofs.lemmas.List.{append_assoc, drop-take, take-take, length-drop, length-append, get_or_append_left, get_or-append_right, get_or-drop, get_or-take, length-take-le, take-append-le, take_rest, same_lists, places}
 use Rattle.std.proofs.lemmas.Bool.{cases_lt, le-leb, lt-leb}
-use Rattle.std.proofs.lemmas.Bool.Decides.{nat_tests}
-use Rattle.line.specs.Memory.{place, laid, overlaid}
+use Rattle.line.specs.Memory.{place, laid}
 use Rattle.octet_line.specs.Ring.{turned, laid_round}
 use Rattle.line.proofs.Laying.{length_laid, laid_room}
 use Rattle.line.proofs.Places.{place_below, place_low, place_high, place_on, place_back}

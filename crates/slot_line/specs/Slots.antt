@@ -1,8 +1,7 @@
 -- What a slot line means, and what its memory holds.
-use Rattle.std.specs.Prelude.{◌≡◌, ℕ, ◌+◌, ◌*◌, Bool, false, cond, List, length, is_ok, Option, Result, slice_set}
+use Rattle.std.specs.Prelude.{◌≡◌, ℕ, ◌*◌, cond, List, length, is_ok, slice_set}
 use Rattle.line.specs.Line.{Waiting, put_answer}
 use Rattle.line.specs.Memory.{laid, place}
-use Rattle.line.specs.declared.fault.LineFault.{LineFault}
 use Rattle.slot_line.specs.Ring.{slots}
 use Rattle.slot_line.specs.declared.slots.SlotLine.{SlotLine}
 

@@ -1,7 +1,7 @@
 -- The items of an SPDU, joined, are its data field, and each tells its fields.
-use Rattle.std.proofs.Common.{◌≡◌, ℕ, zero, suc, ◌+◌, ◌-◌, ◌/◌, ◌%◌, ◌<◌, ◌≤◌, Bool, true, false, cond, ◌&&◌, eqb, List, [], ◌∷◌, ◌++◌, length, take, drop, is_ok, Some, None, Ok, Err, Option, Result, sym, refl, ap, ◌∙◌, subst, arith}
+use Rattle.std.proofs.Common.{◌≡◌, ℕ, zero, suc, ◌+◌, ◌-◌, ◌/◌, ◌%◌, Bool, true, false, cond, ◌&&◌, eqb, List, [], ◌∷◌, ◌++◌, length, take, drop, is_ok, Some, None, Ok, Err, Option, Result, sym, refl, ap, ◌∙◌, arith}
 use Rattle.std.proofs.lemmas.List.{append-nil, take-append-drop}
-use Rattle.std.specs.List.{flat_map, AllByRecursion as All}
+use Rattle.std.specs.List.{flat_map}
 use Rattle.bits.specs.Codec.{carry}
 use Rattle.directive.specs.Directive.{front, size_of, read_directive}
 use Rattle.directive.specs.declared.directive.Name.{Name}
@@ -10,7 +10,7 @@ use Rattle.directive.specs.declared.fault.SpduFault.{SpduFault}
 use Rattle.directive.specs.declared.fault.SpduFault.TheVariants as fault
 use Rattle.directive.proofs.Fronts.{size_positive, never_none, found_reads}
 use Rattle.spdu.specs.Report.{read_report}
-use Rattle.spdu.specs.Item.{ItemValue, FieldsValue, of_report, of_directive, item_octets, item_fields, directive_fields, ContentValue, holds_report, holds_field, opened, opens_field, type_of, enough, Reading, ended, preceded, report, octets, directive, directives, begins, items_of, read, reading}
+use Rattle.spdu.specs.Item.{of_report, of_directive, item_octets, ContentValue, holds_report, holds_field, opened, opens_field, type_of, enough, directives, begins, items_of, read, reading}
 use Rattle.spdu.specs.Items.{data_field, JoinedIn, Sound}
 use Rattle.spdu.specs.declared.report.Report.{Report}
 use Rattle.spdu.specs.declared.item.SpduType.{SpduType}

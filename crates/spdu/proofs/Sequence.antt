@@ -1,11 +1,11 @@
 -- How the items of an SPDU follow one another.
-use Rattle.std.proofs.Common.{◌≡◌, ℕ, zero, suc, ◌+◌, ◌-◌, ◌/◌, ◌<◌, ◌≤◌, List, [], ◌∷◌, length, take, drop, Some, None, Ok, Err, Option, Result, sym, refl, ap, ◌∙◌, add-zero, arith, length-drop}
+use Rattle.std.proofs.Common.{◌≡◌, ℕ, zero, suc, ◌+◌, ◌-◌, List, [], ◌∷◌, length, take, drop, Some, None, Ok, Err, sym, refl, ap, ◌∙◌, add-zero, arith}
 use Rattle.std.proofs.lemmas.List.{drop-drop, drop_all}
 use Rattle.directive.specs.Directive.{front, size_of}
 use Rattle.directive.specs.declared.directive.Name.{Name}
 use Rattle.directive.specs.declared.fault.SpduFault.{SpduFault}
 use Rattle.directive.proofs.Fronts.{size_positive}
-use Rattle.spdu.specs.Item.{ItemValue, Reading, ended, preceded, directive, directives, begins}
+use Rattle.spdu.specs.Item.{ended, preceded, directive, directives, begins}
 
 -- octets that belong to a directive are passed over
 pub skips : (k at : ℕ) (o : List ℕ) → directives k at o ≡ directives 0 (at + k) (drop k o)

@@ -1,6 +1,6 @@
 -- An SPDU survives both ways through its octets.
-use Rattle.std.proofs.Common.{◌≡◌, ℕ, ◌+◌, ◌*◌, ◌/◌, ◌%◌, ◌^◌, ◌<◌, ◌≤◌, Bool, true, false, cond, ◌&&◌, eqb, ltb, List, [], ◌∷◌, length, get_or, Some, None, Ok, Err, Option, Result, sym, refl, ap, ◌∙◌, arith}
-use Rattle.std.proofs.lemmas.Bool.{eq-eqb, eqb-true, and_parts, ltb-true, lt-ltb, and_from}
+use Rattle.std.proofs.Common.{◌≡◌, ℕ, ◌/◌, ◌%◌, ◌<◌, ◌≤◌, Bool, true, false, cond, ◌&&◌, eqb, List, [], ◌∷◌, length, get_or, Some, None, Ok, Err, Option, Result, sym, refl, ap, ◌∙◌, arith}
+use Rattle.std.proofs.lemmas.Bool.{eq-eqb, eqb-true}
 use Rattle.std.proofs.lemmas.Bool.Decides.{nat_tests}
 use Rattle.bits.specs.Codec.{carry, encoding}
 use Rattle.bits.specs.Layout.{cut, join, fits, number}
@@ -8,12 +8,11 @@ use Rattle.bits.proofs.Codecs.{granted}
 use Rattle.directive.specs.declared.fault.SpduFault.{SpduFault}
 use Rattle.directive.specs.declared.fault.SpduFault.TheVariants as fault
 use Rattle.spdu.specs.Report.{report_layout, report_fields, report_with, read_report, report_octets, encoded_report}
-use Rattle.spdu.specs.Item.{ContentValue, holds_report, holds_field, opened, opens_field, type_of, type_code, enough, items_of, read, reading}
-use Rattle.spdu.specs.Spdu.{SpduValue, report, variable, spdu_value, spdu_seen, content_read, read_spdu, variable_layout, variable_fields, spdu_fits, spdu_octets, encoded_spdu}
+use Rattle.spdu.specs.Item.{ContentValue, holds_report, holds_field, opened, opens_field, type_of, type_code, enough, items_of, read}
+use Rattle.spdu.specs.Spdu.{SpduValue, report, variable, content_read, read_spdu, variable_layout, variable_fields, spdu_fits, spdu_octets, encoded_spdu}
 use Rattle.spdu.specs.declared.report.Report.{Report}
 use Rattle.spdu.specs.declared.item.SpduType.{SpduType}
 use Rattle.spdu.specs.declared.item.SpduType.TheVariants.{Type1, Type2, Type3, Type5}
-use Rattle.spdu.specs.declared.spdu.Spdu.{Spdu}
 use Rattle.spdu.proofs.Opened.{opens_variable}
 use Rattle.spdu.proofs.ReportTrips as reports
 

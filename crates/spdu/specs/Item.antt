@@ -1,5 +1,5 @@
 -- The items of an SPDU.
-use Rattle.std.specs.Prelude.{ℕ, zero, suc, ◌+◌, ◌-◌, ◌/◌, ◌%◌, Bool, true, false, cond, ◌&&◌, List, [], ◌∷◌, length, take, Some, None, Ok, Err, Option, Result, ◌==◌, nat_lt}
+use Rattle.std.specs.Prelude.{ℕ, zero, suc, ◌+◌, ◌-◌, ◌/◌, ◌%◌, Bool, true, cond, ◌&&◌, List, [], ◌∷◌, length, take, Some, None, Ok, Err, Option, Result, ◌==◌, nat_lt}
 use Rattle.bits.specs.Codec.{carry}
 use Rattle.directive.specs.Directive.{front, size_of, read_directive}
 use Rattle.directive.specs.declared.directive.Name.{Name}

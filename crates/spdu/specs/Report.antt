@@ -1,5 +1,5 @@
 -- The report of a receiver (PLCW), an SPDU of two octets.
-use Rattle.std.specs.Prelude.{ℕ, ◌/◌, Bool, cond, List, [], ◌∷◌, length, Ok, Err, Result, ◌==◌, slice_index}
+use Rattle.std.specs.Prelude.{ℕ, ◌/◌, cond, List, [], ◌∷◌, length, Ok, Err, Result, ◌==◌, slice_index}
 use Rattle.bits.specs.Layout.{cut, join, fits, octets, number}
 use Rattle.bits.specs.Codec.{encoding}
 use Rattle.directive.specs.Link.{flag}

@@ -1,19 +1,18 @@
 -- Units that leave a queue, and copies of them.
-use Rattle.std.proofs.Common.{◌≡◌, ℕ, suc, ◌+◌, ◌-◌, ◌*◌, ◌<◌, ◌≤◌, min, Bool, true, false, cond, ◌&&◌, leb, List, [], ◌∷◌, length, get_or, take, drop, is_ok, Some, None, Ok, Err, Option, Result, sym, refl, ap, ◌∙◌, arith, length-drop, drop-cons}
+use Rattle.std.proofs.Common.{◌≡◌, ℕ, suc, ◌+◌, ◌-◌, ◌*◌, ◌<◌, ◌≤◌, min, Bool, true, false, cond, ◌&&◌, List, [], ◌∷◌, length, get_or, take, drop, is_ok, Some, None, Ok, Err, Option, Result, sym, ap, ◌∙◌, arith, length-drop, drop-cons}
 use Rattle.std.proofs.lemmas.List.{length-take-le, drop_all}
 use Rattle.std.proofs.lemmas.Bool.{le-leb, true≢false}
-use Rattle.std.proofs.lemmas.Bool.Decides.{nat_tests}
 use Rattle.bits.specs.Codec.{beginning}
 use Rattle.line.specs.Memory.{laid}
 use Rattle.line.proofs.Laying.{laid_first}
-use Rattle.queue.specs.Ring.{queued, index_of, without}
+use Rattle.queue.specs.Ring.{index_of, without}
 use Rattle.queue.specs.declared.fault.QueueFault.{QueueFault}
 use Rattle.queue.specs.declared.fault.QueueFault.TheVariants.{Table}
 use Rattle.queue.specs.declared.queue.Queue.{Queue}
 use Rattle.queue.specs.declared.ring.Ring.{Ring}
 use Rattle.queue.proofs.Promises.{sound}
 use Rattle.queue.proofs.Rings.{counted, element, index_within, queued_without}
-use Rattle.unit.specs.Unit.{UnitValue, CopiesOut, LetsGo, note, note_of, unit_at, held_from, units_in, first_note, first_shown, memory_fits, roomy}
+use Rattle.unit.specs.Unit.{UnitValue, CopiesOut, LetsGo, note, unit_at, held_from, units_in, first_note, first_shown, memory_fits, roomy}
 use Rattle.unit.specs.declared.fault.UnitFault.{UnitFault}
 use Rattle.unit.specs.declared.fault.UnitFault.TheVariants.{Memory}
 use Rattle.unit.specs.declared.slip.Note.{Note}

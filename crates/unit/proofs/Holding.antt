@@ -1,18 +1,18 @@
 -- Units in a table and a store.
-use Rattle.std.proofs.Common.{◌≡◌, ℕ, zero, suc, ◌+◌, ◌*◌, ◌<◌, ◌≤◌, Bool, true, false, cond, eqb, ltb, ◌⊎◌, List, [], ◌∷◌, ◌++◌, map, length, get_or, take, drop, set, is_ok, Ok, Err, sym, refl, ap, ◌∙◌, ⊎_elim, arith}
-use Rattle.std.proofs.lemmas.List.{same_lists, length-set, length-take-le, get_or-set_same, get_or-set_other, map-set}
+use Rattle.std.proofs.Common.{◌≡◌, ℕ, zero, suc, ◌+◌, ◌*◌, ◌<◌, ◌≤◌, Bool, true, false, cond, eqb, ltb, List, [], ◌∷◌, map, length, get_or, take, drop, set, is_ok, Ok, Err, sym, refl, ap, ◌∙◌, ⊎_elim, arith}
+use Rattle.std.proofs.lemmas.List.{same_lists, length-set, get_or-set_same, get_or-set_other, map-set}
 use Rattle.std.proofs.lemmas.Bool.{cases_lt, cases_eq, ltb-true, eqb-true, and_parts, true≢false}
 use Rattle.std.proofs.lemmas.Bool.Decides.{nat_tests}
 use Rattle.line.specs.Memory.{laid}
 use Rattle.line.proofs.Laying.{laid_there, laid_before, laid_after}
 use Rattle.queue.specs.Queue.{add_answer}
-use Rattle.queue.specs.Ring.{queued, index_of, grown, Sound}
+use Rattle.queue.specs.Ring.{queued, index_of, grown}
 use Rattle.queue.specs.declared.ring.Ring.{Ring}
 use Rattle.queue.specs.declared.fault.QueueFault.{QueueFault}
 use Rattle.queue.proofs.Rings.{queued_grown, index_within}
 use Rattle.queue.specs.declared.queue.Queue.{Queue}
 use Rattle.queue.proofs.Promises.{sound}
-use Rattle.unit.specs.Unit.{UnitValue, Holds, note, note_of, unit_at, held_from, units_in, is_unit, memory_fits, hold_answer}
+use Rattle.unit.specs.Unit.{UnitValue, Holds, note, unit_at, held_from, units_in, memory_fits}
 use Rattle.unit.specs.declared.slip.Note.{Note}
 use Rattle.unit.specs.declared.slip.Slip.{Slip}
 

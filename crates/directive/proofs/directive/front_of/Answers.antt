@@ -1,7 +1,7 @@
-use Rattle.std.proofs.Common.{◌≡◌, ◌<◌, length, Some, Ok, Err, sym, ap, ◌∙◌, arith, rules}
+use Rattle.std.proofs.Common.{◌<◌, length, Some, Ok, Err, sym, ap, ◌∙◌, arith, rules}
 use Rattle.std.proofs.lemmas.Result.{err_from_is_err_and}
 use Rattle.bits.specs.Codec.{carry}
-use Rattle.directive.specs.Directive.{name_of, front}
+use Rattle.directive.specs.Directive.{name_of}
 use Rattle.directive.proofs.Fronts.{front_judged}
 use Rattle.directive.proofs.directive.front_of.Goals as goal
 

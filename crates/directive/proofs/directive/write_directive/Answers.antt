@@ -1,7 +1,7 @@
-use Rattle.std.proofs.Common.{◌≡◌, ◌-◌, take, drop, Ok, Err, sym, ap, ◌∙◌}
+use Rattle.std.proofs.Common.{◌≡◌, Ok, Err, sym, ap, ◌∙◌}
 use Rattle.std.proofs.lemmas.Result.{err_from_is_err_and}
 use Rattle.bits.proofs.Codecs.{some_tells, none_tells, no_encoding, encodes, unreadable, wide_encoding, puts_known}
-use Rattle.directive.specs.Directive.{size_of, name_for, read_directive, directive_fits, directive_word, directive_octets, encoded_directive}
+use Rattle.directive.specs.Directive.{size_of, read_directive, directive_fits, directive_word, directive_octets, encoded_directive}
 use Rattle.directive.specs.declared.fault.SpduFault.TheVariants as fault
 use Rattle.directive.proofs.Trips.{own_slice, reading_undoes}
 use Rattle.std.specs.Option.{ok_or}

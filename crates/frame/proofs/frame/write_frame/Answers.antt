@@ -1,10 +1,9 @@
-use Rattle.std.proofs.Common.{◌≡◌, ◌+◌, ◌-◌, ◌/◌, ◌%◌, ◌^◌, ◌<◌, true, false, length, take, Ok, Err, sym, ap, ◌∙◌, arith, rules}
-use Rattle.std.proofs.lemmas.Bool.Decides.{nat_tests}
+use Rattle.std.proofs.Common.{◌≡◌, ◌+◌, ◌/◌, ◌%◌, ◌^◌, length, take, Ok, sym, ap, ◌∙◌, arith, rules}
 use Rattle.bits.specs.Layout.{fits, join}
 use Rattle.bits.specs.Codec.{beginning}
 use Rattle.bits.proofs.Codecs.{some_tells, none_tells, no_encoding, no_room, wrote}
-use Rattle.frame.specs.Header.{header_layout, header_fields}
-use Rattle.frame.specs.Frame.{FrameValue, frame_value, fields_of, encoded, read_frame, frame_octets}
+use Rattle.frame.specs.Header.{header_layout}
+use Rattle.frame.specs.Frame.{frame_value, fields_of, encoded, read_frame, frame_octets}
 use Rattle.frame.specs.declared.fault.FrameFault.TheVariants as fault
 use Rattle.frame.proofs.Trips.{too_wide, no_data, not_allowed, encodes, five_then, reading_undoes}
 use Rattle.frame.proofs.frame.write_frame.Goals as goal

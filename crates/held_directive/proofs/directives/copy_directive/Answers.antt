@@ -1,4 +1,4 @@
-use Rattle.std.proofs.Common.{◌≡◌, ◌<◌, get_or, sym, ap, ◌∙◌, arith}
+use Rattle.std.proofs.Common.{◌<◌, get_or, sym, ap, ◌∙◌, arith}
 use Rattle.held_directive.proofs.Queueing.{copied, index_there, no_room, not_copied}
 use Rattle.held_directive.proofs.directives.copy_directive.Goals as goal
 

@@ -1,4 +1,4 @@
-use Rattle.std.proofs.Common.{◌≡◌, ◌-◌, ◌/◌, ◌%◌, ◌<◌, length, get_or, take, drop, sym, ap, ◌∙◌, arith, rules}
+use Rattle.std.proofs.Common.{◌-◌, ◌/◌, ◌%◌, ◌<◌, length, get_or, take, drop, sym, ap, ◌∙◌, arith, rules}
 use lib.Bits.{bit_and, and_mask}
 use Rattle.std.proofs.lemmas.Slice.{between_to_end}
 use Rattle.spdu.specs.Item.{opens_field, type_of}

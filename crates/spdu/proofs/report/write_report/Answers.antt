@@ -1,4 +1,4 @@
-use Rattle.std.proofs.Common.{◌≡◌, take, drop, Ok, Err, sym, ap, ◌∙◌}
+use Rattle.std.proofs.Common.{◌≡◌, take, drop, Ok, ap, ◌∙◌}
 use Rattle.std.specs.Option.{ok_or}
 use Rattle.bits.specs.Codec.{put, put_answer}
 use Rattle.bits.specs.Layout.{cut, join, fits, octets}

@@ -1,5 +1,4 @@
-use Rattle.std.proofs.Common.{◌≡◌, ◌+◌, ◌-◌, ◌*◌, ◌≤◌, min, length, get_or, take, drop, sym, refl, ap, ◌∙◌, arith}
-use Rattle.line.specs.Memory.{laid}
+use Rattle.std.proofs.Common.{◌≡◌, min, get_or, sym, refl, ap, ◌∙◌, arith}
 use Rattle.queue.specs.Ring.{index_of}
 use Rattle.unit.proofs.Copying.{copied, not_copied, shown}
 use Rattle.unit.proofs.units.copy_unit.Goals as goal

@@ -1,4 +1,4 @@
-use Rattle.std.proofs.Common.{◌≡◌, sym, ◌∙◌, rules}
+use Rattle.std.proofs.Common.{sym, ◌∙◌, rules}
 use Rattle.unit.proofs.Copying.{gone, granted_count}
 use Rattle.unit.proofs.units.free_units.Goals as goal
 

@@ -1,4 +1,4 @@
-use Rattle.std.proofs.Common.{◌≡◌, ◌*◌, ◌≤◌, min, sym, refl, ap, ◌∙◌, arith, rules}
+use Rattle.std.proofs.Common.{◌≡◌, ◌*◌, min, sym, refl, ap, ◌∙◌, arith, rules}
 use Rattle.line.specs.Memory.{laid}
 use Rattle.queue.specs.Ring.{index_of}
 use Rattle.unit.proofs.Holding.{held}

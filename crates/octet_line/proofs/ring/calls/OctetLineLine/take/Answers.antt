@@ -1,4 +1,4 @@
-use Rattle.std.proofs.Common.{◌≡◌, ◌+◌, ◌*◌, ◌<◌, ◌≤◌, length, take, sym, refl, ◌∙◌, arith}
+use Rattle.std.proofs.Common.{◌≡◌, ◌*◌, ◌≤◌, length, take, refl, ◌∙◌, arith}
 use Rattle.line.proofs.Meaning.{takes_short, takes_oldest}
 use Rattle.line.proofs.Places.{place_below}
 use Rattle.line.proofs.Laying.{laid_first}

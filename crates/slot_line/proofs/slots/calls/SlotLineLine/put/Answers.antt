@@ -1,6 +1,5 @@
-use Rattle.std.proofs.Common.{◌≡◌, ◌*◌, false, cond, length, set, is_ok, Ok, Err, sym, refl, ap, ◌∙◌, arith}
+use Rattle.std.proofs.Common.{◌≡◌, ◌*◌, false, cond, length, set, is_ok, sym, refl, ap, ◌∙◌, arith}
 use Rattle.line.specs.Memory.{laid}
-use Rattle.line.specs.declared.fault.LineFault.TheVariants.{Full}
 use Rattle.line.proofs.Meaning.{puts_full, puts_last}
 use Rattle.slot_line.specs.Slots.{store_of, lengths_of, next_slot, waiting_in}
 use Rattle.slot_line.proofs.Rings.{slots_length, grown}

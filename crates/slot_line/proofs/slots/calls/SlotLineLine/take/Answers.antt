@@ -1,4 +1,4 @@
-use Rattle.std.proofs.Common.{◌≡◌, ◌≤◌, length, sym, refl, ap, ◌∙◌, arith}
+use Rattle.std.proofs.Common.{◌≡◌, ◌≤◌, length, sym, refl, ◌∙◌, arith}
 use Rattle.line.proofs.Meaning.{takes_short, takes_oldest}
 use Rattle.line.proofs.Laying.{laid_first}
 use Rattle.slot_line.specs.Ring.{slot}
