@@ -1,12 +1,9 @@
 -- What the sending machine's turn says of any sender.
-use Rattle.std.proofs.Common.{◌≡◌, ℕ, ◌+◌, ◌-◌, ◌%◌, ◌<◌, ◌≤◌, Bool, true, false, cond, ◌&&◌, ltb, refl, ap, ◌∙◌, subst, arith}
+use Rattle.std.proofs.Common.{◌<◌, ◌≤◌, arith}
 use Rattle.std.proofs.lemmas.Bool.Decides.{nat_tests}
 use Rattle.cop.specs.Laws.{InWindow}
-use Rattle.cop.specs.Number.{distance, width}
-use Rattle.cop.specs.Sender.{SenderValue, TurnValue, number_at, sender_turn, sender_value}
+use Rattle.cop.specs.Sender.{sender_turn, sender_value}
 use Rattle.cop.specs.declared.sender.Sender.{Sender}
-use Rattle.cop.specs.declared.step.Step.{Step}
-use Rattle.cop.specs.declared.step.Step.TheVariants as step
 
 pub in_window : (s : Sender) → InWindow (sender_value s) (sender_turn (sender_value s))
 in_window s =

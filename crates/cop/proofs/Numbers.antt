@@ -1,7 +1,7 @@
 -- The laws of frame numbers, at every modulus, and so at every width.
-use Rattle.std.proofs.Common.{◌≡◌, ℕ, ◌+◌, ◌-◌, ◌*◌, ◌/◌, ◌%◌, ◌^◌, ◌<◌, ◌≤◌, sym, ap, ◌∙◌, mod-lt, mod-eq_of_lt, mul-add, arith, pow_pos}
+use Rattle.std.proofs.Common.{◌≡◌, ℕ, ◌+◌, ◌-◌, ◌*◌, ◌/◌, ◌%◌, ◌^◌, ◌<◌, sym, ap, ◌∙◌, mod-lt, mod-eq_of_lt, mul-add, arith, pow_pos}
 use native.Mathlib.Nat.{add-mod-mod, add-mod_right, add-mul-mod_self_left, div-add-mod, mod-add-mod}
-use Rattle.cop.specs.Number.{NumberLaws, Tells, distance, number_after}
+use Rattle.cop.specs.Number.{NumberLaws, Tells, distance}
 
 module _ (M : ℕ) (pos : 0 < M) where
   -- the number that comes e after another is e away from it

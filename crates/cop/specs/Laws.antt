@@ -1,10 +1,7 @@
 -- What the rules of the two machines say in other words.
-use Rattle.std.specs.Prelude.{◌≡◌, ℕ, ◌+◌, ◌<◌, ◌≤◌, Bool, true, ◌⊎◌, ◌≢◌}
-use Rattle.cop.specs.Number.{width, number_after, distance}
+use Rattle.std.specs.Prelude.{◌≡◌, ℕ, ◌+◌, ◌<◌, ◌≤◌, ◌≢◌}
+use Rattle.cop.specs.Number.{width, distance}
 use Rattle.cop.specs.Sender.{SenderValue, TurnValue, AcknowledgementValue, number_at}
-use Rattle.cop.specs.Receiver.{ReceiverValue, judged}
-use Rattle.cop.specs.declared.receiving.Judgement.{Judgement}
-use Rattle.cop.specs.declared.step.Step.{Step}
 use Rattle.cop.specs.declared.step.Step.TheVariants as step
 
 -- A turn that is not idle sends a unit that is in the queue, with a number from the base on that the window allows, and

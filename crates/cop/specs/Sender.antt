@@ -1,5 +1,5 @@
 -- The sending machine (FOP-P).
-use Rattle.std.specs.Prelude.{◌≡◌, ℕ, ◌+◌, ◌-◌, ◌<◌, Bool, cond, ◌&&◌, Some, None, Option, nat_le, nat_lt}
+use Rattle.std.specs.Prelude.{ℕ, ◌+◌, ◌-◌, Bool, cond, ◌&&◌, Some, None, Option, nat_le, nat_lt}
 use Rattle.cop.specs.Number.{width, number_after, distance}
 use Rattle.cop.specs.declared.sender.Sender.{Sender}
 use Rattle.cop.specs.declared.sending.Acknowledgement.{Acknowledgement}
