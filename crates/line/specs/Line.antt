@@ -1,6 +1,6 @@
 -- What a line means, and what putting, taking and counting do to it.
 use Rattle.std.specs.Prelude.{◌≡◌, ℕ, ◌≤◌, Bool, true, false, cond, ◌&&◌, ◌⊎◌, List, [], ◌∷◌, ◌++◌, length, drop, Some, None, Ok, Err, Option, Result, ◌==◌, nat_le}
-use Rattle.std.specs.List.{AllByRecursion as All}
+use Rattle.std.specs.List.{AllByRecursion}
 use Rattle.bits.specs.Codec.{beginning}
 use Rattle.line.specs.declared.fault.LineFault.{LineFault}
 use Rattle.line.specs.declared.fault.LineFault.TheVariants.{FrameSize, Full, Memory}
@@ -22,7 +22,7 @@ pub record Sound (w : Waiting) : Type 0 where
   pub some : 1 ≤ w.limit
   pub most : w.limit ≤ 4096
   pub room : length w.frames ≤ w.limit
-  pub each : All FrameSized w.frames
+  pub each : AllByRecursion FrameSized w.frames
 
 -- as many frames wait as may
 abbrev pub is_full : Waiting → Bool

@@ -1,6 +1,6 @@
 -- Frames end to end, each behind its length.
 use Rattle.std.proofs.Common.{◌≡◌, ℕ, zero, suc, ◌+◌, ◌-◌, ◌*◌, ◌/◌, ◌%◌, ◌≤◌, true, ◌&&◌, leb, List, [], ◌∷◌, ◌++◌, length, take, drop, sym, refl, ap, ◌∙◌, subst, arith}
-use Rattle.std.specs.List.{AllByRecursion as All}
+use Rattle.std.specs.List.{AllByRecursion}
 use Rattle.std.proofs.lemmas.List.{length-drop, length-append, get_or_append_left, length-take-le, take_all, take-append-le, drop-append-le, nil_from_length}
 use Rattle.std.proofs.lemmas.Bool.{and_parts, and_from, leb-true, le-leb}
 use Rattle.line.specs.Line.{FrameSized}
@@ -70,7 +70,7 @@ pub frames_count : (n : ℕ) (u : List ℕ) → length (frames_in n u) ≡ n
 frames_count zero u = refl
 frames_count (suc n) u = ap suc (frames_count n (drop (2 + told u) u))
 
-pub frames_framed : (n : ℕ) (u : List ℕ) → are_frames n u ≡ true → All FrameSized (frames_in n u)
+pub frames_framed : (n : ℕ) (u : List ℕ) → are_frames n u ≡ true → AllByRecursion FrameSized (frames_in n u)
 frames_framed zero u w = tt
 frames_framed (suc n) u w =
     let a = front n u w in let fits = a.fits in

@@ -1,6 +1,6 @@
 -- Frames in a ring of slots.
 use Rattle.std.proofs.Common.{◌≡◌, ℕ, zero, suc, ◌+◌, ◌-◌, ◌*◌, ◌<◌, ◌≤◌, List, [], ◌∷◌, ◌++◌, map, length, get_or, drop, set, sym, refl, ap, ◌∙◌, subst, ⊎_elim, arith}
-use Rattle.std.specs.List.{range_with_len, AllByRecursion as All}
+use Rattle.std.specs.List.{range_with_len, AllByRecursion}
 use Rattle.std.proofs.lemmas.List.{length-drop, length-set, length-take-le, get_or-set_same, get_or-set_other, same_lists}
 use Rattle.std.proofs.ByRecursion.{All-from_get_or}
 use Rattle.std.proofs.lemmas.List.FromFn.{length-map-range_with_len, get_or-map-range_with_len, map-range_with_len_more}
@@ -75,7 +75,7 @@ sizes_pop : (lengths : List ℕ) (first count limit : ℕ) → first < limit →
 sizes_pop lengths first count limit near some few sizes k l = rw (place_next limit first k near (omega arith)) (sizes (k + 1) (omega arith))
 
 -- every frame in the slots is one
-slots_framed : (store lengths : List ℕ) (first count limit : ℕ) → length store ≡ 2048 * limit → first < limit → count ≤ limit → FrameLengths lengths first count limit → All FrameSized (slots store lengths first count limit)
+slots_framed : (store lengths : List ℕ) (first count limit : ℕ) → length store ≡ 2048 * limit → first < limit → count ≤ limit → FrameLengths lengths first count limit → AllByRecursion FrameSized (slots store lengths first count limit)
 slots_framed store lengths first count limit room near few sizes =
     All-from_get_or FrameSized _ [] (λ k l.
     let m : k < count = omega (arith, slots_length store lengths first count limit) in

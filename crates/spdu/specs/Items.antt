@@ -1,6 +1,6 @@
 -- What a reader of items has still to hand out.
 use Rattle.std.specs.Prelude.{◌≡◌, ℕ, ◌/◌, true, cond, List, [], ◌∷◌, drop, is_ok, Ok, Err, ◌==◌}
-use Rattle.std.specs.List.{flat_map, AllByRecursion as All}
+use Rattle.std.specs.List.{flat_map, AllByRecursion}
 use Rattle.spdu.specs.Item.{Reading, ended, preceded, directives, item_value, item_octets, item_fields}
 use Rattle.spdu.specs.declared.items.Items.{Items}
 use Rattle.spdu.specs.declared.items.Next.{Next}
@@ -25,4 +25,4 @@ JoinedIn o r = r.ends ≡ Ok tt → flat_map item_octets r.items ≡ data_field 
 
 -- each item of a reading tells its fields: none is refused
 abbrev pub Sound : Reading → Type 0
-Sound r = All (λ i. is_ok (item_fields i) ≡ true) r.items
+Sound r = AllByRecursion (λ i. is_ok (item_fields i) ≡ true) r.items
