@@ -94,28 +94,28 @@ pub record Grown (s l f s' l' : List ℕ) (first count limit first' count' limit
 
 module _ (s l f s' l' : List ℕ) (first count limit i first' count' limit' : ℕ)
     (room : length s ≡ 2048 * limit) (table : length l ≡ limit) (near : first < limit) (few : count < limit) (low : 5 ≤ length f) (short : length f ≤ 2048) (sizes : FrameLengths l first count limit)
-    (place_is : i ≡ place limit first count) (Store-is : s' ≡ laid s (2048 * i) f) (lengths-is : l' ≡ set l i (length f))
-    (first-is : first' ≡ first) (count-is : count' ≡ count + 1) (limit_is : limit' ≡ limit) where
+    (place_is : i ≡ place limit first count) (store_is : s' ≡ laid s (2048 * i) f) (lengths_is : l' ≡ set l i (length f))
+    (first_is : first' ≡ first) (count_is : count' ≡ count + 1) (limit_is : limit' ≡ limit) where
   below : i < limit
   below = omega (arith, place_is, place_below limit first count near (omega arith))
 
   pub grown : Grown s l f s' l' first count limit first' count' limit'
   grown = record {
-    frames = rw (Store-is, lengths-is, first-is, count-is, limit_is, place_is) (slots_push s l f first count limit room table near few short sizes);
-    room = rw (Store-is, limit_is) (length_laid s f (2048 * i) (omega (arith, below)) ∙ room);
-    table = rw (lengths-is, limit_is) (length-set l i (length f) ∙ table);
-    sizes = rw (lengths-is, first-is, count-is, limit_is, place_is) (sizes_push l (length f) first count limit table near few low short sizes);
+    frames = rw (store_is, lengths_is, first_is, count_is, limit_is, place_is) (slots_push s l f first count limit room table near few short sizes);
+    room = rw (store_is, limit_is) (length_laid s f (2048 * i) (omega (arith, below)) ∙ room);
+    table = rw (lengths_is, limit_is) (length-set l i (length f) ∙ table);
+    sizes = rw (lengths_is, first_is, count_is, limit_is, place_is) (sizes_push l (length f) first count limit table near few low short sizes);
   }
 
 -- and with the oldest gone
 module _ (s l : List ℕ) (first count limit first' count' limit' : ℕ)
     (near : first < limit) (some : 1 ≤ count) (few : count ≤ limit) (sizes : FrameLengths l first count limit)
-    (first-is : first' ≡ place limit first 1) (count-is : count' ≡ count - 1) (limit_is : limit' ≡ limit) where
+    (first_is : first' ≡ place limit first 1) (count_is : count' ≡ count - 1) (limit_is : limit' ≡ limit) where
   pub popped_slots : slots s l first count limit ≡ slot s l first ∷ slots s l first' count' limit'
-  popped_slots = rw (first-is, count-is, limit_is) (slots_pop s l first count limit near some few)
+  popped_slots = rw (first_is, count_is, limit_is) (slots_pop s l first count limit near some few)
 
   pub popped_sizes : FrameLengths l first' count' limit'
-  popped_sizes = rw (first-is, count-is, limit_is) (sizes_pop l first count limit near some few sizes)
+  popped_sizes = rw (first_is, count_is, limit_is) (sizes_pop l first count limit near some few sizes)
 
 -- the length of the oldest frame
 pub first_size : (l : List ℕ) (first count limit : ℕ) → first < limit → 1 ≤ count → FrameLengths l first count limit → (5 ≤ get_or l first 0) × (get_or l first 0 ≤ 2048)
