@@ -2,6 +2,7 @@
 #![tactic(auto)]
 
 use frame::header::Quality;
+use held_directive::directives::{Directives, copy_directive, free_directives, hold_directive};
 use held_directive::held::HeldDirective;
 use queue::fault::QueueFault;
 use queue::queue::Queue;
@@ -86,9 +87,38 @@ fn second_of_two(first: &[u8], second: &[u8]) -> Result<(usize, u8), QueueFault>
     Ok((length, last))
 }
 
+// Queues three directives in a queue of two, letting the first go before the third, and answers the third's length and
+// last octet.
+fn third_of_three(first: &[u8], second: &[u8], third: &[u8]) -> Result<(usize, u8), QueueFault> {
+    let mut entries = [HeldDirective::blank(); 2];
+    let mut directives = Directives {
+        entries: &mut entries,
+    };
+    let mut queue = Queue::new(2)?;
+    let mut buffer = [0u8; 16];
+    for octets in [first, second] {
+        let Some(directive) = HeldDirective::pack(octets) else {
+            return Err(QueueFault::Full);
+        };
+        hold_directive(&mut queue, &mut directives, directive)?;
+    }
+    let _ = free_directives(&mut queue, &directives, 1)?;
+    let Some(directive) = HeldDirective::pack(third) else {
+        return Err(QueueFault::Full);
+    };
+    hold_directive(&mut queue, &mut directives, directive)?;
+    let length = copy_directive(&queue, &directives, 1, &mut buffer)?.unwrap_or(0);
+    let last = match buffer.get(length.saturating_sub(1)) {
+        Some(octet) => *octet,
+        None => 0,
+    };
+    Ok((length, last))
+}
+
 #[cfg(test)]
 mod tests {
     use super::*;
+    use held_directive::directives::directives_fit;
     use std::test::Fail;
 
     #[test]
@@ -107,6 +137,30 @@ mod tests {
     #[test]
     fn directives_come_whole(rt: HostRuntime) {
         assert_eq!(rt; second_of_two(&[1, 2, 3], &[4, 5, 6, 7]), Ok((4, 7)));
+    }
+
+    #[test]
+    fn directives_go_through_a_queue(rt: HostRuntime) {
+        assert_eq!(rt;
+            third_of_three(&[1, 2, 3], &[4, 5], &[6, 7, 8, 9]),
+            Ok((4, 9))
+        );
+    }
+
+    #[test]
+    fn a_queue_of_directives_is_as_large_as_its_table(rt: HostRuntime) -> Result<(), Fail> {
+        let mut entries = [HeldDirective::blank(); 1];
+        let directives = Directives {
+            entries: &mut entries,
+        };
+        assert_eq!(rt; directives_fit(&Queue::new(1)?, &directives), true);
+        let other = Queue::new(2)?;
+        assert_eq!(rt; directives_fit(&other, &directives), false);
+        assert_eq!(rt;
+            copy_directive(&other, &directives, 0, &mut [0; 16]),
+            Err(QueueFault::Table)
+        );
+        Ok(())
     }
 
     #[test]
