@@ -1,6 +1,6 @@
 //! The receiving machine.
 ghost use Rattle.std.specs.Prelude.{◌≡◌, true};
-ghost use Rattle.cop.specs.Receiver.{counted, delivers, fresh_receiver, judged, judgement, receiver_value, reported};
+ghost use Rattle.cop.specs.Receiver.{counted, delivers, fresh_receiver, judged, judgement, reported};
 
 use super::receiver::Receiver;
 
@@ -32,7 +32,7 @@ impl Judgement {
 impl Receiver {
     /// A receiver of nothing yet.
     pub fn new() -> Receiver
-        ensures { receiver_value result ≡ fresh_receiver }
+        ensures { result ≡ fresh_receiver }
     {
         Receiver {
             wanted: 0,
@@ -44,7 +44,7 @@ impl Receiver {
 
     /// What becomes of the sequence-controlled frame with this number, if a place for its unit is free or not.
     pub fn judge(self, number: u8, free: bool) -> Judgement
-        ensures { result ≡ judgement (receiver_value self) number free }
+        ensures { result ≡ judgement self number free }
     {
         match number.wrapping_sub(self.wanted) {
             0 => {
@@ -61,7 +61,7 @@ impl Receiver {
 
     /// The machine after a sequence-controlled frame. Whatever became of it, a report is owed.
     pub fn after_judging(self, judgement: Judgement) -> Receiver
-        ensures answer { receiver_value result ≡ judged (receiver_value self) judgement }
+        ensures answer { result ≡ judged self judgement }
         ensures owes { result.owed ≡ true }
     {
         let (wanted, retransmit) = match judgement {
@@ -79,7 +79,7 @@ impl Receiver {
 
     /// The machine after an expedited frame.
     pub fn after_expedited(self) -> Receiver
-        ensures { receiver_value result ≡ counted (receiver_value self) }
+        ensures { result ≡ counted self }
     {
         Receiver {
             wanted: self.wanted,
@@ -91,7 +91,7 @@ impl Receiver {
 
     /// The machine after its report went. The flag stays: it is cleared by the frame that is wanted, not by its report.
     pub fn after_report(self) -> Receiver
-        ensures { receiver_value result ≡ reported (receiver_value self) }
+        ensures { result ≡ reported self }
     {
         let Receiver {
             wanted,

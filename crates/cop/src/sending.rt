@@ -2,7 +2,7 @@
 ghost use Rattle.std.specs.Prelude.{◌≡◌, ◌≤◌, IfSome};
 ghost use Rattle.cop.specs.Laws.{InWindow, KeepsNumbers};
 ghost use Rattle.cop.specs.Number.{number_after, width};
-ghost use Rattle.cop.specs.Sender.{acknowledgement_seen, acknowledging, expedited_sent, making_sender, number_at, sender_made, sender_turn, sender_value, standing, turn_value};
+ghost use Rattle.cop.specs.Sender.{acknowledging, expedited_sent, making_sender, number_at, sender_turn, standing};
 
 use super::sender::Sender;
 use super::step::Step;
@@ -30,7 +30,7 @@ pub struct Acknowledgement {
 impl Sender {
     /// A sender of nothing yet. None where the window is not from 1 to 127.
     pub fn new(window: u8) -> Option<Sender>
-        ensures { sender_made result ≡ making_sender window }
+        ensures { result ≡ making_sender window }
     {
         if window < 1 || window > 127 {
             return None;
@@ -48,7 +48,7 @@ impl Sender {
     // The machine with so many units out, and the next to send at this place.
     fn standing(self, out: u8, at: u8) -> Sender
         requires { (at ≤ out) × ((out ≤ self.window) × (out ≤ self.count)) }
-        ensures { sender_value result ≡ standing (sender_value self) out at }
+        ensures { result ≡ standing self out at }
     {
         Sender {
             count: self.count,
@@ -62,28 +62,29 @@ impl Sender {
 
     /// What the machine does when it is its turn.
     pub fn turn(self) -> Turn
-        ensures answer { turn_value result ≡ sender_turn (sender_value self) }
-        ensures window { InWindow (sender_value self) (turn_value result) }
+        ensures answer { result ≡ sender_turn self }
+        ensures window { InWindow self result }
     {
+        let Sender { out, at, .. } = self;
         if self.at < self.out {
             return Turn {
                 step: Step::Again,
                 place: self.at,
-                after: self.standing(self.out, self.at + 1),
+                after: self.standing(out, at + 1),
             };
         }
         if self.out < self.window && u16::from(self.out) < self.count {
             return Turn {
                 step: Step::First,
                 place: self.out,
-                after: self.standing(self.out + 1, self.out + 1),
+                after: self.standing(out + 1, out + 1),
             };
         }
         if self.out > 0 {
             return Turn {
                 step: Step::Oldest,
                 place: 0,
-                after: self.standing(self.out, 1),
+                after: self.standing(out, 1),
             };
         }
         Turn {
@@ -95,14 +96,14 @@ impl Sender {
 
     /// The number of the frame of the unit at a place.
     pub fn number_at(self, place: u8) -> u8
-        ensures { result ≡ number_at (sender_value self) place }
+        ensures { result ≡ number_at self place }
     {
         self.base.wrapping_add(place)
     }
 
     /// The machine after an expedited frame went.
     pub fn after_expedited(self) -> Sender
-        ensures { sender_value result ≡ expedited_sent (sender_value self) }
+        ensures { result ≡ expedited_sent self }
     {
         let Sender {
             count,
@@ -125,8 +126,8 @@ impl Sender {
     /// What a report does that holds this value, and whether it asks to start again. None where it would acknowledge
     /// more than is out.
     pub fn acknowledge(self, value: u8, retransmit: bool) -> Option<Acknowledgement>
-        ensures answer { acknowledgement_seen result ≡ acknowledging (sender_value self) value retransmit }
-        ensures numbers { IfSome (acknowledgement_seen result) (KeepsNumbers (sender_value self)) }
+        ensures answer { result ≡ acknowledging self value retransmit }
+        ensures numbers { IfSome result (KeepsNumbers self) }
     {
         let Sender {
             count,
