@@ -2,7 +2,7 @@
 use std::marker::Model;
 
 /// The receiving machine (FARM-P) as plain numbers.
-#[derive(Clone, Copy, PartialEq, Eq, Debug)]
+#[derive(Clone, Copy, PartialEq, Eq, Debug, Default)]
 pub struct Receiver {
     /// V, the number of the sequence-controlled frame that is wanted next.
     pub wanted: u8,

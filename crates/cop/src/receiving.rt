@@ -22,10 +22,7 @@ impl Judgement {
     pub fn delivers(self) -> bool
         ensures { result ≡ delivers self }
     {
-        match self {
-            Judgement::Wanted => true,
-            Judgement::NoPlace | Judgement::Gap | Judgement::Repeat => false,
-        }
+        matches!(self, Judgement::Wanted)
     }
 }
 
@@ -34,12 +31,7 @@ impl Receiver {
     pub fn new() -> Receiver
         ensures { result ≡ fresh_receiver }
     {
-        Receiver {
-            wanted: 0,
-            retransmit: false,
-            owed: false,
-            counter: 0,
-        }
+        Receiver::default()
     }
 
     /// What becomes of the sequence-controlled frame with this number, if a place for its unit is free or not.
@@ -47,13 +39,8 @@ impl Receiver {
         ensures { result ≡ judgement self number free }
     {
         match number.wrapping_sub(self.wanted) {
-            0 => {
-                if free {
-                    Judgement::Wanted
-                } else {
-                    Judgement::NoPlace
-                }
-            }
+            0 if free => Judgement::Wanted,
+            0 => Judgement::NoPlace,
             1..=127 => Judgement::Gap,
             _ => Judgement::Repeat,
         }
@@ -73,7 +60,7 @@ impl Receiver {
             wanted,
             retransmit,
             owed: true,
-            counter: self.counter,
+            ..self
         }
     }
 
@@ -82,10 +69,8 @@ impl Receiver {
         ensures { result ≡ counted self }
     {
         Receiver {
-            wanted: self.wanted,
-            retransmit: self.retransmit,
-            owed: self.owed,
             counter: (self.counter + 1) % 8,
+            ..self
         }
     }
 
@@ -93,18 +78,9 @@ impl Receiver {
     pub fn after_report(self) -> Receiver
         ensures { result ≡ reported self }
     {
-        let Receiver {
-            wanted,
-            retransmit,
-            counter,
-            ..
-        } = self;
-        let owed = false;
         Receiver {
-            wanted,
-            retransmit,
-            owed,
-            counter,
+            owed: false,
+            ..self
         }
     }
 }

@@ -8,7 +8,7 @@ use super::sender::Sender;
 use super::step::Step;
 
 /// A turn of the sending machine.
-#[derive(Clone, Copy)]
+#[derive(Clone, Copy, PartialEq, Eq, Debug)]
 pub struct Turn {
     /// Which of the last four steps it is.
     pub step: Step,
@@ -19,7 +19,7 @@ pub struct Turn {
 }
 
 /// What a report does.
-#[derive(Clone, Copy)]
+#[derive(Clone, Copy, PartialEq, Eq, Debug)]
 pub struct Acknowledgement {
     /// How many units it frees, the oldest first.
     pub freed: u8,
@@ -32,7 +32,7 @@ impl Sender {
     pub fn new(window: u8) -> Option<Sender>
         ensures { result ≡ making_sender window }
     {
-        if window < 1 || window > 127 {
+        if !(1..=127).contains(&window) {
             return None;
         }
         Some(Sender {
@@ -45,46 +45,38 @@ impl Sender {
         })
     }
 
-    // The machine with so many units out, and the next to send at this place.
-    fn standing(self, out: u8, at: u8) -> Sender
-        requires { (at ≤ out) × ((out ≤ self.window) × (out ≤ self.count)) }
-        ensures { result ≡ standing self out at }
-    {
-        Sender {
-            count: self.count,
-            base: self.base,
-            out,
-            at,
-            window: self.window,
-            expedited: self.expedited,
-        }
-    }
-
     /// What the machine does when it is its turn.
     pub fn turn(self) -> Turn
         ensures answer { result ≡ sender_turn self }
         ensures window { InWindow self result }
     {
-        let Sender { out, at, .. } = self;
         if self.at < self.out {
             return Turn {
                 step: Step::Again,
                 place: self.at,
-                after: self.standing(out, at + 1),
+                after: Sender {
+                    at: self.at + 1,
+                    ..self
+                },
             };
         }
         if self.out < self.window && u16::from(self.out) < self.count {
+            let out = self.out + 1;
             return Turn {
                 step: Step::First,
                 place: self.out,
-                after: self.standing(out + 1, out + 1),
+                after: Sender {
+                    out,
+                    at: out,
+                    ..self
+                },
             };
         }
         if self.out > 0 {
             return Turn {
                 step: Step::Oldest,
                 place: 0,
-                after: self.standing(out, 1),
+                after: Sender { at: 1, ..self },
             };
         }
         Turn {
@@ -105,21 +97,9 @@ impl Sender {
     pub fn after_expedited(self) -> Sender
         ensures { result ≡ expedited_sent self }
     {
-        let Sender {
-            count,
-            base,
-            out,
-            at,
-            window,
-            expedited,
-        } = self;
         Sender {
-            count,
-            base,
-            out,
-            at,
-            window,
-            expedited: expedited.wrapping_add(1),
+            expedited: self.expedited.wrapping_add(1),
+            ..self
         }
     }
 
@@ -129,31 +109,24 @@ impl Sender {
         ensures answer { result ≡ acknowledging self value retransmit }
         ensures numbers { IfSome result (KeepsNumbers self) }
     {
-        let Sender {
-            count,
-            base,
-            out,
-            at,
-            window,
-            expedited,
-        } = self;
-        let freed = value.wrapping_sub(base);
-        if freed > out {
+        let freed = value.wrapping_sub(self.base);
+        if freed > self.out {
             return None;
         }
-        let next = if retransmit {
+        let at = if retransmit {
             0
         } else {
-            at.saturating_sub(freed)
+            self.at.saturating_sub(freed)
         };
-        let after = Sender {
-            count: count - u16::from(freed),
-            base: value,
-            out: out - freed,
-            at: next,
-            window,
-            expedited,
-        };
-        Some(Acknowledgement { freed, after })
+        Some(Acknowledgement {
+            freed,
+            after: Sender {
+                count: self.count - u16::from(freed),
+                base: value,
+                out: self.out - freed,
+                at,
+                ..self
+            },
+        })
     }
 }
