@@ -48,17 +48,16 @@ abbrev pub expedited_sent : Sender → Sender
 expedited_sent s = record s { expedited = number_after width s.expedited 1 }
 
 -- a turn of the sending machine: the step, the place of the unit that goes, and the sender after it
-abbrev pub goes : Step → ℕ → Sender → Turn
-goes s k after = record { step = s; place = k; after = after }
+abbrev pub goes : Step → ℕ → Sender → Option Turn
+goes s k after = Some (record { step = s; place = k; after = after })
 
 -- the first of these that applies: what was sent goes again, from `at` on; while the window and the queue allow it, one
--- more goes for the first time; all that may be out is out, so the oldest goes once more; nothing is out
-abbrev pub sender_turn : Sender → Turn
+-- more goes for the first time; all that may be out is out, so the oldest goes once more; nothing is out, and none goes
+abbrev pub sender_turn : Sender → Option Turn
 sender_turn s =
     cond (nat_lt s.at s.out) (goes step.Again s.at (standing s s.out (s.at + 1)))
     (cond (nat_lt s.out s.window && nat_lt s.out s.count) (goes step.First s.out (standing s (s.out + 1) (s.out + 1)))
-    (cond (nat_lt 0 s.out) (goes step.Oldest 0 (standing s s.out 1))
-    (goes step.Idle 0 s)))
+    (cond (nat_lt 0 s.out) (goes step.Oldest 0 (standing s s.out 1)) None))
 
 -- the number of the frame of the unit at a place
 abbrev pub number_at : Sender → ℕ → ℕ

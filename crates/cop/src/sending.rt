@@ -1,5 +1,5 @@
 //! The sending machine.
-ghost use Rattle.std.specs.Prelude.{◌≡◌, ◌≤◌, IfSome};
+ghost use Rattle.std.specs.Prelude.{◌≡◌, ◌↔◌, IfSome, IsNone};
 ghost use Rattle.cop.specs.Laws.{InWindow, KeepsNumbers};
 ghost use Rattle.cop.specs.Number.{number_after, width};
 ghost use Rattle.cop.specs.Sender.{acknowledging, expedited_sent, making_sender, number_at, sender_turn, standing};
@@ -7,10 +7,10 @@ ghost use Rattle.cop.specs.Sender.{acknowledging, expedited_sent, making_sender,
 use super::sender::Sender;
 use super::step::Step;
 
-/// A turn of the sending machine.
+/// A turn of the sending machine in which a unit goes.
 #[derive(Clone, Copy, PartialEq, Eq, Debug)]
 pub struct Turn {
-    /// Which of the last four steps it is.
+    /// Whether the unit goes again, for the first time, or as the oldest.
     pub step: Step,
     /// The place of the unit that goes.
     pub place: u8,
@@ -45,24 +45,25 @@ impl Sender {
         })
     }
 
-    /// What the machine does when it is its turn.
-    pub fn turn(self) -> Turn
+    /// What the machine does when it is its turn. None where no unit waits.
+    pub fn turn(self) -> Option<Turn>
         ensures answer { result ≡ sender_turn self }
-        ensures window { InWindow self result }
+        ensures window { IfSome result (InWindow self) }
+        ensures idle { IsNone result ↔ (self.count ≡ 0) }
     {
         if self.at < self.out {
-            return Turn {
+            return Some(Turn {
                 step: Step::Again,
                 place: self.at,
                 after: Sender {
                     at: self.at + 1,
                     ..self
                 },
-            };
+            });
         }
         if self.out < self.window && u16::from(self.out) < self.count {
             let out = self.out + 1;
-            return Turn {
+            return Some(Turn {
                 step: Step::First,
                 place: self.out,
                 after: Sender {
@@ -70,20 +71,16 @@ impl Sender {
                     at: out,
                     ..self
                 },
-            };
+            });
         }
         if self.out > 0 {
-            return Turn {
+            return Some(Turn {
                 step: Step::Oldest,
                 place: 0,
                 after: Sender { at: 1, ..self },
-            };
+            });
         }
-        Turn {
-            step: Step::Idle,
-            place: 0,
-            after: self,
-        }
+        None
     }
 
     /// The number of the frame of the unit at a place.
