@@ -1,8 +1,7 @@
 //! The sending machine.
 ghost use Rattle.std.specs.Prelude.{◌≡◌, ◌↔◌, IfSome, IsNone};
 ghost use Rattle.cop.specs.Laws.{InWindow, KeepsNumbers};
-ghost use Rattle.cop.specs.Number.{number_after, width};
-ghost use Rattle.cop.specs.Sender.{acknowledging, expedited_sent, making_sender, number_at, sender_turn, standing};
+ghost use Rattle.cop.specs.Sender.{acknowledging, expedited_sent, making_sender, number_at, sender_turn};
 
 use super::sender::Sender;
 use super::step::Step;
