@@ -5,24 +5,14 @@ use Rattle.cop.specs.declared.receiver.Receiver.{Receiver}
 use Rattle.cop.specs.declared.receiving.Judgement.{Judgement}
 use Rattle.cop.specs.declared.receiving.Judgement.TheVariants.{Wanted, NoPlace, Gap, Repeat}
 
--- the numbers of a receiver, without what always holds of them
-pub record ReceiverValue : Type 0 where
-  pub wanted : ℕ
-  pub retransmit : Bool
-  pub owed : Bool
-  pub counter : ℕ
-
-abbrev pub receiver_value : Receiver → ReceiverValue
-receiver_value r = record { wanted = r.wanted; retransmit = r.retransmit; owed = r.owed; counter = r.counter }
-
 -- a receiver of nothing yet
-abbrev pub fresh_receiver : ReceiverValue
+abbrev pub fresh_receiver : Receiver
 fresh_receiver = record { wanted = 0; retransmit = false; owed = false; counter = 0 }
 
 -- what becomes of the sequence-controlled frame with this number, by how far it comes after the one that is wanted: it
 -- is that one, with a free place for its unit or without; up to half of all numbers after it there is a gap before it;
 -- any other came before
-abbrev pub judgement : ReceiverValue → ℕ → Bool → Judgement
+abbrev pub judgement : Receiver → ℕ → Bool → Judgement
 judgement r n free =
     cond (distance width n r.wanted == 0) (cond free Wanted NoPlace)
     (cond (nat_lt (2 * distance width n r.wanted) (2 ^ width)) Gap Repeat)
@@ -35,16 +25,16 @@ delivers Gap = false
 delivers Repeat = false
 
 -- the receiver after a sequence-controlled frame: in all four cases it owes a report
-abbrev pub judged : ReceiverValue → Judgement → ReceiverValue
-judged r Wanted = record { wanted = number_after width r.wanted 1; retransmit = false; owed = true; counter = r.counter }
-judged r NoPlace = record { wanted = r.wanted; retransmit = true; owed = true; counter = r.counter }
-judged r Gap = record { wanted = r.wanted; retransmit = true; owed = true; counter = r.counter }
-judged r Repeat = record { wanted = r.wanted; retransmit = r.retransmit; owed = true; counter = r.counter }
+abbrev pub judged : Receiver → Judgement → Receiver
+judged r Wanted = record r { wanted = number_after width r.wanted 1; retransmit = false; owed = true }
+judged r NoPlace = record r { retransmit = true; owed = true }
+judged r Gap = record r { retransmit = true; owed = true }
+judged r Repeat = record r { owed = true }
 
 -- the receiver after an expedited frame
-abbrev pub counted : ReceiverValue → ReceiverValue
-counted r = record { wanted = r.wanted; retransmit = r.retransmit; owed = r.owed; counter = (r.counter + 1) % 8 }
+abbrev pub counted : Receiver → Receiver
+counted r = record r { counter = (r.counter + 1) % 8 }
 
 -- the receiver after its report went
-abbrev pub reported : ReceiverValue → ReceiverValue
-reported r = record { wanted = r.wanted; retransmit = r.retransmit; owed = false; counter = r.counter }
+abbrev pub reported : Receiver → Receiver
+reported r = record r { owed = false }

@@ -1,8 +1,8 @@
 //! The numbers of the receiving side.
-ghost use Rattle.std.specs.Prelude.{◌<◌};
+use std::marker::Model;
 
 /// The receiving machine (FARM-P) as plain numbers.
-#[derive(Clone, Copy)]
+#[derive(Clone, Copy, PartialEq, Eq, Debug, Default)]
 pub struct Receiver {
     /// V, the number of the sequence-controlled frame that is wanted next.
     pub wanted: u8,
@@ -12,5 +12,18 @@ pub struct Receiver {
     pub owed: bool,
     /// How many expedited frames came, modulo 8.
     pub counter: u8,
-    ghost few: { counter < 8 },
+}
+
+// A clause sees a receiver as its fields.
+impl Model for Receiver {
+    ghost use Rattle.std.specs.Prelude.{◌<◌};
+    ghost use Rattle.cop.specs.declared.receiver.Receiver.TheInside as inside;
+
+    ghost Value = { inside.Inside };
+
+    ghost view = { λ r. r };
+
+    ghost invariant = { λ r. r.counter < 8 };
+
+    ghost inverse = { λ r. r };
 }

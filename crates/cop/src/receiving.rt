@@ -1,6 +1,6 @@
 //! The receiving machine.
 ghost use Rattle.std.specs.Prelude.{◌≡◌, true};
-ghost use Rattle.cop.specs.Receiver.{counted, delivers, fresh_receiver, judged, judgement, receiver_value, reported};
+ghost use Rattle.cop.specs.Receiver.{counted, delivers, fresh_receiver, judged, judgement, reported};
 
 use super::receiver::Receiver;
 
@@ -22,38 +22,25 @@ impl Judgement {
     pub fn delivers(self) -> bool
         ensures { result ≡ delivers self }
     {
-        match self {
-            Judgement::Wanted => true,
-            Judgement::NoPlace | Judgement::Gap | Judgement::Repeat => false,
-        }
+        matches!(self, Judgement::Wanted)
     }
 }
 
 impl Receiver {
     /// A receiver of nothing yet.
     pub fn new() -> Receiver
-        ensures { receiver_value result ≡ fresh_receiver }
+        ensures { result ≡ fresh_receiver }
     {
-        Receiver {
-            wanted: 0,
-            retransmit: false,
-            owed: false,
-            counter: 0,
-        }
+        Receiver::default()
     }
 
     /// What becomes of the sequence-controlled frame with this number, if a place for its unit is free or not.
     pub fn judge(self, number: u8, free: bool) -> Judgement
-        ensures { result ≡ judgement (receiver_value self) number free }
+        ensures { result ≡ judgement self number free }
     {
         match number.wrapping_sub(self.wanted) {
-            0 => {
-                if free {
-                    Judgement::Wanted
-                } else {
-                    Judgement::NoPlace
-                }
-            }
+            0 if free => Judgement::Wanted,
+            0 => Judgement::NoPlace,
             1..=127 => Judgement::Gap,
             _ => Judgement::Repeat,
         }
@@ -61,7 +48,7 @@ impl Receiver {
 
     /// The machine after a sequence-controlled frame. Whatever became of it, a report is owed.
     pub fn after_judging(self, judgement: Judgement) -> Receiver
-        ensures answer { receiver_value result ≡ judged (receiver_value self) judgement }
+        ensures answer { result ≡ judged self judgement }
         ensures owes { result.owed ≡ true }
     {
         let (wanted, retransmit) = match judgement {
@@ -73,38 +60,27 @@ impl Receiver {
             wanted,
             retransmit,
             owed: true,
-            counter: self.counter,
+            ..self
         }
     }
 
     /// The machine after an expedited frame.
     pub fn after_expedited(self) -> Receiver
-        ensures { receiver_value result ≡ counted (receiver_value self) }
+        ensures { result ≡ counted self }
     {
         Receiver {
-            wanted: self.wanted,
-            retransmit: self.retransmit,
-            owed: self.owed,
             counter: (self.counter + 1) % 8,
+            ..self
         }
     }
 
     /// The machine after its report went. The flag stays: it is cleared by the frame that is wanted, not by its report.
     pub fn after_report(self) -> Receiver
-        ensures { receiver_value result ≡ reported (receiver_value self) }
+        ensures { result ≡ reported self }
     {
-        let Receiver {
-            wanted,
-            retransmit,
-            counter,
-            ..
-        } = self;
-        let owed = false;
         Receiver {
-            wanted,
-            retransmit,
-            owed,
-            counter,
+            owed: false,
+            ..self
         }
     }
 }

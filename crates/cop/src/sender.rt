@@ -1,9 +1,9 @@
 //! The numbers of the sending side.
-ghost use Rattle.std.specs.Prelude.{◌<◌, ◌≤◌};
+use std::marker::Model;
 
 /// The sending machine (FOP-P) as plain numbers. The sequence queue holds `count` units, of which the first `out` were
 /// sent and not yet acknowledged.
-#[derive(Clone, Copy)]
+#[derive(Clone, Copy, PartialEq, Eq, Debug)]
 pub struct Sender {
     /// How many units the sequence queue holds.
     pub count: u16,
@@ -17,10 +17,19 @@ pub struct Sender {
     pub window: u8,
     /// VE, the number of the next expedited frame.
     pub expedited: u8,
-    ghost number: { base < 256 },
-    ghost placed: { at ≤ out },
-    ghost allowed: { out ≤ window },
-    ghost queued: { out ≤ count },
-    ghost some: { 1 ≤ window },
-    ghost most: { window ≤ 127 },
+}
+
+// A clause sees a sender as its fields.
+impl Model for Sender {
+    ghost use Rattle.cop.specs.declared.sender.Sender.TheInside as inside;
+
+    ghost Value = { inside.Inside };
+
+    ghost use Rattle.cop.specs.Sender.{IsSender};
+
+    ghost view = { λ s. s };
+
+    ghost invariant = { IsSender };
+
+    ghost inverse = { λ s. s };
 }

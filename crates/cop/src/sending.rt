@@ -1,16 +1,15 @@
 //! The sending machine.
-ghost use Rattle.std.specs.Prelude.{◌≡◌, ◌≤◌, IfSome};
+ghost use Rattle.std.specs.Prelude.{◌≡◌, ◌↔◌, IfSome, IsNone};
 ghost use Rattle.cop.specs.Laws.{InWindow, KeepsNumbers};
-ghost use Rattle.cop.specs.Number.{number_after, width};
-ghost use Rattle.cop.specs.Sender.{acknowledgement_seen, acknowledging, expedited_sent, making_sender, number_at, sender_made, sender_turn, sender_value, standing, turn_value};
+ghost use Rattle.cop.specs.Sender.{acknowledging, expedited_sent, making_sender, number_at, sender_turn};
 
 use super::sender::Sender;
 use super::step::Step;
 
-/// A turn of the sending machine.
-#[derive(Clone, Copy)]
+/// A turn of the sending machine in which a unit goes.
+#[derive(Clone, Copy, PartialEq, Eq, Debug)]
 pub struct Turn {
-    /// Which of the last four steps it is.
+    /// Whether the unit goes again, for the first time, or as the oldest.
     pub step: Step,
     /// The place of the unit that goes.
     pub place: u8,
@@ -19,7 +18,7 @@ pub struct Turn {
 }
 
 /// What a report does.
-#[derive(Clone, Copy)]
+#[derive(Clone, Copy, PartialEq, Eq, Debug)]
 pub struct Acknowledgement {
     /// How many units it frees, the oldest first.
     pub freed: u8,
@@ -30,9 +29,9 @@ pub struct Acknowledgement {
 impl Sender {
     /// A sender of nothing yet. None where the window is not from 1 to 127.
     pub fn new(window: u8) -> Option<Sender>
-        ensures { sender_made result ≡ making_sender window }
+        ensures { result ≡ making_sender window }
     {
-        if window < 1 || window > 127 {
+        if !(1..=127).contains(&window) {
             return None;
         }
         Some(Sender {
@@ -45,114 +44,85 @@ impl Sender {
         })
     }
 
-    // The machine with so many units out, and the next to send at this place.
-    fn standing(self, out: u8, at: u8) -> Sender
-        requires { (at ≤ out) × ((out ≤ self.window) × (out ≤ self.count)) }
-        ensures { sender_value result ≡ standing (sender_value self) out at }
-    {
-        Sender {
-            count: self.count,
-            base: self.base,
-            out,
-            at,
-            window: self.window,
-            expedited: self.expedited,
-        }
-    }
-
-    /// What the machine does when it is its turn.
-    pub fn turn(self) -> Turn
-        ensures answer { turn_value result ≡ sender_turn (sender_value self) }
-        ensures window { InWindow (sender_value self) (turn_value result) }
+    /// What the machine does when it is its turn. None where no unit waits.
+    pub fn turn(self) -> Option<Turn>
+        ensures answer { result ≡ sender_turn self }
+        ensures window { IfSome result (InWindow self) }
+        ensures idle { IsNone result ↔ (self.count ≡ 0) }
     {
         if self.at < self.out {
-            return Turn {
+            return Some(Turn {
                 step: Step::Again,
                 place: self.at,
-                after: self.standing(self.out, self.at + 1),
-            };
+                after: Sender {
+                    at: self.at + 1,
+                    ..self
+                },
+            });
         }
         if self.out < self.window && u16::from(self.out) < self.count {
-            return Turn {
+            let out = self.out + 1;
+            return Some(Turn {
                 step: Step::First,
                 place: self.out,
-                after: self.standing(self.out + 1, self.out + 1),
-            };
+                after: Sender {
+                    out,
+                    at: out,
+                    ..self
+                },
+            });
         }
         if self.out > 0 {
-            return Turn {
+            return Some(Turn {
                 step: Step::Oldest,
                 place: 0,
-                after: self.standing(self.out, 1),
-            };
+                after: Sender { at: 1, ..self },
+            });
         }
-        Turn {
-            step: Step::Idle,
-            place: 0,
-            after: self,
-        }
+        None
     }
 
     /// The number of the frame of the unit at a place.
     pub fn number_at(self, place: u8) -> u8
-        ensures { result ≡ number_at (sender_value self) place }
+        ensures { result ≡ number_at self place }
     {
         self.base.wrapping_add(place)
     }
 
     /// The machine after an expedited frame went.
     pub fn after_expedited(self) -> Sender
-        ensures { sender_value result ≡ expedited_sent (sender_value self) }
+        ensures { result ≡ expedited_sent self }
     {
-        let Sender {
-            count,
-            base,
-            out,
-            at,
-            window,
-            expedited,
-        } = self;
         Sender {
-            count,
-            base,
-            out,
-            at,
-            window,
-            expedited: expedited.wrapping_add(1),
+            expedited: self.expedited.wrapping_add(1),
+            ..self
         }
     }
 
     /// What a report does that holds this value, and whether it asks to start again. None where it would acknowledge
     /// more than is out.
     pub fn acknowledge(self, value: u8, retransmit: bool) -> Option<Acknowledgement>
-        ensures answer { acknowledgement_seen result ≡ acknowledging (sender_value self) value retransmit }
-        ensures numbers { IfSome (acknowledgement_seen result) (KeepsNumbers (sender_value self)) }
+        ensures answer { result ≡ acknowledging self value retransmit }
+        ensures numbers { IfSome result (KeepsNumbers self) }
     {
-        let Sender {
-            count,
-            base,
-            out,
-            at,
-            window,
-            expedited,
-        } = self;
-        let freed = value.wrapping_sub(base);
-        if freed > out {
+        let freed = value.wrapping_sub(self.base);
+        if freed > self.out {
             return None;
         }
-        let next = if retransmit {
+        let at = if retransmit {
             0
         } else {
-            at.saturating_sub(freed)
+            self.at.saturating_sub(freed)
         };
-        let after = Sender {
-            count: count - u16::from(freed),
-            base: value,
-            out: out - freed,
-            at: next,
-            window,
-            expedited,
-        };
-        Some(Acknowledgement { freed, after })
+        Some(Acknowledgement {
+            freed,
+            after: Sender {
+                count: self.count - u16::from(freed),
+                base: value,
+                out: self.out - freed,
+                at,
+                ..self
+            },
+        })
     }
 }

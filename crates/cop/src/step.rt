@@ -6,19 +6,19 @@ ghost use Rattle.cop.specs.Sender.{step_number};
 #[derive(Clone, Copy, PartialEq, Eq, Debug)]
 pub enum Step {
     /// The oldest directive goes, and leaves its queue.
-    Directive,
+    Directive = 1,
     /// The report that is owed goes.
-    Report,
+    Report = 2,
     /// The expedited unit that has waited longest goes, and leaves its queue.
-    Expedited,
+    Expedited = 3,
     /// A unit that was sent goes again.
-    Again,
+    Again = 4,
     /// A unit goes for the first time.
-    First,
+    First = 5,
     /// All that may be out is out, and was sent again: the oldest goes once more.
-    Oldest,
+    Oldest = 6,
     /// Nothing waits, and nothing is put.
-    Idle,
+    Idle = 7,
 }
 
 impl Step {
@@ -26,14 +26,6 @@ impl Step {
     pub fn number(self) -> u8
         ensures { result ≡ step_number self }
     {
-        match self {
-            Step::Directive => 1,
-            Step::Report => 2,
-            Step::Expedited => 3,
-            Step::Again => 4,
-            Step::First => 5,
-            Step::Oldest => 6,
-            Step::Idle => 7,
-        }
+        self as u8
     }
 }
