@@ -2,7 +2,7 @@
 use super::frames::print_frame;
 use super::totals::print_totals;
 use inspection::summary::Summary;
-use recording::line::{Line, TextFault};
+use recording::line::TextFault;
 use recording::reader::Reader;
 use std::io;
 
@@ -57,9 +57,9 @@ impl Inspector {
         self.line = line.saturating_add(1);
         self.begun = false;
         match self.reader.end_line() {
-            Line::Empty => Ok(()),
-            Line::Octets(_) => print_frame(rt, line, self.reader.octets(), &mut self.summary),
-            Line::Faulty(fault) => {
+            Ok(0) => Ok(()),
+            Ok(_) => print_frame(rt, line, self.reader.octets(), &mut self.summary),
+            Err(fault) => {
                 self.summary.count_unreadable();
                 print_text_fault(rt, line, fault)
             }

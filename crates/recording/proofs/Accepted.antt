@@ -1,12 +1,12 @@
 -- What is read without a fault was written so.
-use Rattle.std.proofs.Common.{◌≡◌, ℕ, ◌+◌, ◌-◌, ◌*◌, ◌/◌, ◌%◌, ◌<◌, ◌≤◌, true, false, ◌⊎◌, List, [], ◌∷◌, Some, None, sym, refl, ap, ◌∙◌, subst, inl, inr, ⊎_elim, arith}
+use Rattle.std.proofs.Common.{◌≡◌, ℕ, ◌+◌, ◌-◌, ◌*◌, ◌/◌, ◌%◌, ◌<◌, ◌≤◌, true, false, ◌⊎◌, List, [], ◌∷◌, Some, None, is_ok, IsOk, sym, refl, ap, ◌∙◌, subst, inl, inr, ⊎_elim, arith}
 use Rattle.std.proofs.lemmas.Bool.Decides.{leb_tells, eqb_tells, nat_tests}
 use Rattle.recording.specs.declared.character.Character.{Character}
 use Rattle.recording.specs.declared.character.Character.TheVariants.{Digit, Blank, Mark, Other}
 use Rattle.recording.specs.declared.line.TextFault.{TextFault}
 use Rattle.recording.specs.declared.line.TextFault.TheVariants.{NotHexadecimal, HalfOctet}
 use Rattle.recording.specs.declared.place.Place.TheVariants.{Faulted}
-use Rattle.recording.specs.Lines.{Reading, steps, taken, faultless, outcome, kind, joined, next}
+use Rattle.recording.specs.Lines.{Reading, steps, taken, outcome, kind, joined, next}
 use Rattle.recording.specs.Texts.{Blank as Gap, space, tab, carriage_return, blank_character, Case, upper, lower, digit_character, blank, octet, written, IsWritten, ReadsOnly}
 use Rattle.recording.proofs.Runs.{digit_kind, blank_kind, between, half, stays}
 
@@ -36,7 +36,7 @@ known c =
 
 -- The rest of the line has no fault either.
 abbrev Clean : Reading → List ℕ → Type 0
-Clean r text = faultless (outcome (steps r text)) ≡ true
+Clean r text = IsOk (outcome (steps r text))
 
 -- One character on.
 on : (r : Reading) (c : ℕ) (k : Character) (text : List ℕ) → kind c ≡ k → Clean r (c ∷ text) → Clean (taken r k) text
@@ -47,7 +47,7 @@ never h = let z : ◌≡◌ {A = ℕ} 0 1 = cc in omega arith
 
 -- Behind a fault no line is without one.
 refused : (os : List ℕ) (column : ℕ) (f : TextFault) (text : List ℕ) → Clean (record { octets = os; column = column; place = Faulted f }) text → ⊥
-refused os column f text h = never (sym (ap faultless (stays os column f text)) ∙ h)
+refused os column f text h = never (sym (ap is_ok (stays os column f text)) ∙ h)
 
 -- One more blank at the front.
 then_blank : (c : ℕ) (b : Gap) (text : List ℕ) → c ≡ blank_character b → IsWritten text → IsWritten (c ∷ text)
@@ -107,4 +107,4 @@ accepts [] = accepts_none
 accepts (c ∷ text) = accepts_more c text (accepts text)
 
 pub reads_only : (r : Reading) → ReadsOnly r (outcome r)
-reads_only r text e clean = (accepts text).from_between [] 0 (ap (λ (s : Reading). faultless (outcome s)) (sym e) ∙ clean)
+reads_only r text e clean = (accepts text).from_between [] 0 (ap (λ (s : Reading). is_ok (outcome s)) (sym e) ∙ clean)

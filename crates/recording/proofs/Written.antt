@@ -2,7 +2,8 @@
 use Rattle.std.proofs.Common.{◌≡◌, ℕ, suc, ◌+◌, ◌*◌, ◌/◌, ◌%◌, ◌≤◌, List, [], ◌∷◌, ◌++◌, length, take, Some, None, Option, sym, refl, ap, ◌∙◌, subst, ⊎_elim, append_assoc, append-nil, arith, length-append, take_all}
 use lib.Seq.{take-append-le}
 use Rattle.std.proofs.lemmas.Bool.Decides.{leb_tells}
-use Rattle.recording.specs.Lines.{Reading, steps, counted, outcome, joined, next}
+use Rattle.recording.specs.declared.place.Place.TheVariants.{Between}
+use Rattle.recording.specs.Lines.{Reading, steps, told, outcome, joined, next}
 use Rattle.recording.specs.Texts.{space, tab, carriage_return, digit_character, Piece, blank, octet, written, octets_of, Sound, ReadsBack}
 use Rattle.recording.proofs.Runs.{digit_kind, between, two_digits, Holds, comments}
 
@@ -44,4 +45,4 @@ pub reads_back : (r : Reading) → ReadsBack r (outcome r) r.octets
 reads_back r ps comment sound e =
     let held = adds [] 0 ps comment sound in
     let kept = more_take [] (octets_of ps) (omega arith) in
-    (ap (λ (s : Reading). s.octets) e ∙ held.same ∙ kept, ap outcome e ∙ held.clean ∙ ap (λ (l : List ℕ). counted (length l)) kept)
+    (ap (λ (s : Reading). s.octets) e ∙ held.same ∙ kept, ap outcome e ∙ held.clean ∙ ap (λ (l : List ℕ). told (length l) 0 Between) kept)

@@ -1,12 +1,11 @@
 -- A line of a recording: what each character does, and what the line held when it ends.
-use Rattle.std.specs.Prelude.{ℕ, ◌+◌, ◌-◌, ◌*◌, ◌^◌, min, Bool, true, false, cond, ◌&&◌, ◌||◌, List, [], ◌∷◌, ◌++◌, length, Some, None, Option, ◌==◌, nat_le, nat_lt}
+use Rattle.std.specs.Prelude.{ℕ, ◌+◌, ◌-◌, ◌*◌, ◌^◌, min, Bool, true, cond, ◌&&◌, ◌||◌, List, [], ◌∷◌, ◌++◌, length, Some, None, Option, Ok, Err, Result, ◌==◌, nat_le, nat_lt}
 use Rattle.recording.specs.declared.character.Character.{Character}
 use Rattle.recording.specs.declared.character.Character.TheVariants.{Digit, Blank, Mark, Other}
 use Rattle.recording.specs.declared.place.Place.{Place}
 use Rattle.recording.specs.declared.place.Place.TheVariants.{Between, Half, Comment, Faulted}
+use Rattle.recording.specs.declared.line.TextFault.{TextFault}
 use Rattle.recording.specs.declared.line.TextFault.TheVariants.{NotHexadecimal, HalfOctet}
-use Rattle.recording.specs.declared.line.Line.{Line}
-use Rattle.recording.specs.declared.line.Line.TheVariants.{Empty, Octets, Faulty}
 
 -- What a character means: digits 0 to 9, A to F and a to f; space, tab and carriage return; the number sign.
 abbrev pub kind : ℕ → Character
@@ -95,23 +94,13 @@ abbrev pub steps : Reading → List ℕ → Reading
 steps r [] = r
 steps r (c ∷ text) = steps (step r c) text
 
--- What a line without a fault held, by how many octets are stored.
-abbrev pub counted : ℕ → Line
-counted n = cond (n == 0) Empty (Octets n)
-
 -- What a line held, by how many octets are stored, how many characters were read, and where it ended.
-abbrev pub told : ℕ → ℕ → Place → Line
-told n column Between = counted n
-told n column (Half h) = Faulty (HalfOctet column)
-told n column Comment = counted n
-told n column (Faulted f) = Faulty f
-
--- Whether a line has no fault.
-abbrev pub faultless : Line → Bool
-faultless Empty = true
-faultless (Octets n) = true
-faultless (Faulty f) = false
+abbrev pub told : ℕ → ℕ → Place → Result ℕ TextFault
+told n column Between = Ok n
+told n column (Half h) = Err (HalfOctet column)
+told n column Comment = Ok n
+told n column (Faulted f) = Err f
 
 -- What a line held that ends here.
-abbrev pub outcome : Reading → Line
+abbrev pub outcome : Reading → Result ℕ TextFault
 outcome r = told (length r.octets) r.column r.place

@@ -3,7 +3,7 @@ ghost use Rattle.std.specs.Prelude.{◌≡◌, true};
 ghost use Rattle.recording.specs.Lines.{after, finished, low, pending, told};
 
 use crate::character::Character;
-use crate::line::{Line, TextFault};
+use crate::line::TextFault;
 
 /// Where in a line a reader stands.
 #[derive(Clone, Copy)]
@@ -58,18 +58,12 @@ pub fn advance(column: u64, place: Place, character: Character) -> Place
 }
 
 /// What a line held that ends at `place`, with `count` octets stored and `column` characters read.
-pub fn conclude(count: usize, column: u64, place: Place) -> Line
+pub fn conclude(count: usize, column: u64, place: Place) -> Result<usize, TextFault>
     ensures { result ≡ told count column place }
 {
     match place {
-        Place::Half(_) => Line::Faulty(TextFault::HalfOctet(column)),
-        Place::Faulted(fault) => Line::Faulty(fault),
-        Place::Between | Place::Comment => {
-            if count == 0 {
-                Line::Empty
-            } else {
-                Line::Octets(count)
-            }
-        }
+        Place::Between | Place::Comment => Ok(count),
+        Place::Half(_) => Err(TextFault::HalfOctet(column)),
+        Place::Faulted(fault) => Err(fault),
     }
 }

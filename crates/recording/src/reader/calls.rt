@@ -7,7 +7,7 @@ ghost use Rattle.recording.specs.Texts.{ReadsBack, ReadsOnly};
 
 use super::{LONGEST, Reader};
 use crate::character::classify;
-use crate::line::Line;
+use crate::line::TextFault;
 use crate::place::{Place, advance, conclude, finish};
 
 impl Reader {
@@ -40,8 +40,11 @@ impl Reader {
         self.column = self.column.saturating_add(1);
     }
 
-    /// Ends the line, and says what it held. Its octets can be read until the next character is fed.
-    pub fn end_line(&mut self) -> Line
+    /// Ends the line, and says how many of its octets are stored, or its first fault.
+    ///
+    /// None are stored of a line that is blank, or a comment only. 2,049 stands for every longer line too.
+    /// The octets can be read until the next character is fed.
+    pub fn end_line(&mut self) -> Result<usize, TextFault>
         ensures answer { result ≡ outcome (reading self.old) }
         ensures reading { reading self.new ≡ start }
         ensures latest { latest self.new ≡ (reading self.old).octets }
@@ -49,12 +52,12 @@ impl Reader {
         ensures only { ReadsOnly (reading self.old) result }
         ensures first { TellsFirst (reading self.old) result }
     {
-        let line = conclude(self.count, self.column, self.place);
+        let held = conclude(self.count, self.column, self.place);
         self.ended = self.count;
         self.count = 0;
         self.column = 0;
         self.place = Place::Between;
-        line
+        held
     }
 
     /// The octets of the line that has just ended: those before the fault, if it had one. None once the next line has begun.
