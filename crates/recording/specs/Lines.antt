@@ -1,5 +1,5 @@
 -- A line of a recording: what each character does, and what the line held when it ends.
-use Rattle.std.specs.Prelude.{ℕ, ◌+◌, ◌-◌, ◌*◌, ◌^◌, min, Bool, true, cond, ◌&&◌, ◌||◌, List, [], ◌∷◌, ◌++◌, length, Some, None, Option, Ok, Err, Result, ◌==◌, nat_le, nat_lt}
+use Rattle.std.specs.Prelude.{ℕ, ◌+◌, ◌-◌, ◌*◌, ◌^◌, min, cond, ◌&&◌, ◌||◌, List, [], ◌∷◌, ◌++◌, length, Some, None, Option, Ok, Err, Result, ◌==◌, nat_le, nat_lt}
 use Rattle.recording.specs.declared.character.Character.{Character}
 use Rattle.recording.specs.declared.character.Character.TheVariants.{Digit, Blank, Mark, Other}
 use Rattle.recording.specs.declared.place.Place.{Place}
@@ -15,20 +15,6 @@ kind c =
     (cond (nat_le 97 c && nat_le c 102) (Digit (c - 87))
     (cond (c == 32 || (c == 9 || c == 13)) Blank
     (cond (c == 35) Mark Other))))
-
--- A digit's value is below 16.
-abbrev pub low : Character → Bool
-low (Digit d) = nat_lt d 16
-low Blank = true
-low Mark = true
-low Other = true
-
--- The value of a first digit is below 16.
-abbrev pub pending : Place → Bool
-pending Between = true
-pending (Half d) = nat_lt d 16
-pending Comment = true
-pending (Faulted f) = true
 
 -- The next column: it stays at the largest number that 64 bits hold.
 abbrev pub next : ℕ → ℕ

@@ -1,6 +1,5 @@
-// The reader of a recording, and what always holds of it.
-ghost use Rattle.std.specs.Prelude.{◌≡◌, ◌≤◌, true};
-ghost use Rattle.recording.specs.Lines.{pending};
+//! The reader of a recording, and what always holds of it.
+ghost use Rattle.std.specs.Prelude.{◌≤◌};
 
 use crate::place::Place;
 
@@ -22,8 +21,7 @@ pub struct Reader {
     column: u64,
     /// Where the line under way stands.
     place: Place,
-    // What is stored stays within the memory, and a first digit that waits for its second is below 16.
+    // What is stored stays within the memory.
     ghost within: { count ≤ 2049 },
     ghost whole: { ended ≤ 2049 },
-    ghost digit: { pending place ≡ true },
 }

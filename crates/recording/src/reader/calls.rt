@@ -1,4 +1,4 @@
-// The calls of a reader.
+//! The calls of a reader.
 ghost use Rattle.std.specs.Prelude.{◌≡◌, ◌≤◌, [], length};
 ghost use Rattle.recording.specs.Faults.{TellsFirst};
 ghost use Rattle.recording.specs.Lines.{start, step, outcome, joined};
@@ -6,9 +6,9 @@ ghost use Rattle.recording.specs.Readings.{reading, latest};
 ghost use Rattle.recording.specs.Texts.{ReadsBack, ReadsOnly};
 
 use super::{LONGEST, Reader};
-use crate::character::classify;
+use crate::character::Character;
 use crate::line::TextFault;
-use crate::place::{Place, advance, conclude, finish};
+use crate::place::Place;
 
 impl Reader {
     /// A reader at the start of a line, with no line behind it.
@@ -30,13 +30,13 @@ impl Reader {
         ensures reading { reading self.new ≡ step (reading self.old) character }
         ensures latest { latest self.new ≡ [] }
     {
-        let kind = classify(character);
+        let kind = Character::from(character);
         // The new line is stored over the last one.
         self.ended = 0;
-        if let Some(octet) = finish(self.place, kind) {
+        if let Some(octet) = self.place.finish(&kind) {
             self.store(octet);
         }
-        self.place = advance(self.column, self.place, kind);
+        self.place = self.place.advance(self.column, &kind);
         self.column = self.column.saturating_add(1);
     }
 
@@ -52,7 +52,7 @@ impl Reader {
         ensures only { ReadsOnly (reading self.old) result }
         ensures first { TellsFirst (reading self.old) result }
     {
-        let held = conclude(self.count, self.column, self.place);
+        let held = self.place.conclude(self.count, self.column);
         self.ended = self.count;
         self.count = 0;
         self.column = 0;
