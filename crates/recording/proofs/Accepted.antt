@@ -3,8 +3,8 @@ use Rattle.std.proofs.Common.{◌≡◌, ℕ, ◌+◌, ◌-◌, ◌*◌, ◌/◌
 use Rattle.std.proofs.lemmas.Bool.Decides.{leb_tells, eqb_tells, nat_tests}
 use Rattle.recording.specs.declared.character.Character.{Character}
 use Rattle.recording.specs.declared.character.Character.TheVariants.{Digit, Blank, Mark, Other}
-use Rattle.recording.specs.declared.line.TextFault.{TextFault}
-use Rattle.recording.specs.declared.line.TextFault.TheVariants.{NotHexadecimal, HalfOctet}
+use Rattle.recording.specs.declared.fault.TextFault.{TextFault}
+use Rattle.recording.specs.declared.fault.TextFault.TheVariants.{NotHexadecimal, HalfOctet}
 use Rattle.recording.specs.declared.place.Place.TheVariants.{Faulted}
 use Rattle.recording.specs.Lines.{Reading, steps, taken, outcome, kind, joined, next}
 use Rattle.recording.specs.Texts.{Blank as Gap, space, tab, carriage_return, blank_character, Case, upper, lower, digit_character, blank, octet, written, IsWritten, ReadsOnly}

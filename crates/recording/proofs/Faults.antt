@@ -2,8 +2,8 @@
 use Rattle.std.proofs.Common.{◌≡◌, ℕ, suc, ◌+◌, ◌*◌, ◌^◌, ◌<◌, List, [], ◌∷◌, ◌++◌, length, Result, IfErr, sym, refl, ap, ◌∙◌, subst, append_assoc, arith, length-append}
 use Rattle.recording.specs.declared.character.Character.{Character}
 use Rattle.recording.specs.declared.character.Character.TheVariants.{Digit, Blank, Mark, Other}
-use Rattle.recording.specs.declared.line.TextFault.{TextFault}
-use Rattle.recording.specs.declared.line.TextFault.TheVariants.{NotHexadecimal, HalfOctet}
+use Rattle.recording.specs.declared.fault.TextFault.{TextFault}
+use Rattle.recording.specs.declared.fault.TextFault.TheVariants.{NotHexadecimal, HalfOctet}
 use Rattle.recording.specs.Lines.{Reading, start, steps, step, taken, outcome, kind, joined, next}
 use Rattle.recording.specs.Faults.{is_digit, waits, Tells, TellsFirst}
 use Rattle.recording.proofs.Runs.{between, half, two_digits, stays, comments}

@@ -3,7 +3,7 @@ use Rattle.std.proofs.Common.{◌≡◌, ℕ, ◌+◌, ◌*◌, ◌<◌, List, [
 use Rattle.std.proofs.lemmas.Bool.Decides.{nat_tests}
 use Rattle.recording.specs.declared.character.Character.{Character}
 use Rattle.recording.specs.declared.character.Character.TheVariants.{Digit, Blank}
-use Rattle.recording.specs.declared.line.TextFault.{TextFault}
+use Rattle.recording.specs.declared.fault.TextFault.{TextFault}
 use Rattle.recording.specs.declared.place.Place.TheVariants.{Between, Half, Comment, Faulted}
 use Rattle.recording.specs.Lines.{Reading, steps, taken, outcome, kind, joined, next}
 use Rattle.recording.specs.Texts.{Blank as Gap, space, tab, carriage_return, blank_character, Case, upper, lower, digit_character}

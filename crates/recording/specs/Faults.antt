@@ -2,8 +2,8 @@
 use Rattle.std.specs.Prelude.{◌≡◌, ℕ, ◌+◌, ◌^◌, ◌<◌, Bool, true, false, List, [], ◌∷◌, ◌++◌, length, Result, IfErr}
 use Rattle.recording.specs.declared.character.Character.{Character}
 use Rattle.recording.specs.declared.character.Character.TheVariants.{Digit, Blank, Mark, Other}
-use Rattle.recording.specs.declared.line.TextFault.{TextFault}
-use Rattle.recording.specs.declared.line.TextFault.TheVariants.{NotHexadecimal, HalfOctet}
+use Rattle.recording.specs.declared.fault.TextFault.{TextFault}
+use Rattle.recording.specs.declared.fault.TextFault.TheVariants.{NotHexadecimal, HalfOctet}
 use Rattle.recording.specs.declared.place.Place.{Place}
 use Rattle.recording.specs.declared.place.Place.TheVariants.{Between, Half, Comment, Faulted}
 use Rattle.recording.specs.Lines.{Reading, kind, start, steps}

@@ -4,8 +4,8 @@ use Rattle.recording.specs.declared.character.Character.{Character}
 use Rattle.recording.specs.declared.character.Character.TheVariants.{Digit, Blank, Mark, Other}
 use Rattle.recording.specs.declared.place.Place.{Place}
 use Rattle.recording.specs.declared.place.Place.TheVariants.{Between, Half, Comment, Faulted}
-use Rattle.recording.specs.declared.line.TextFault.{TextFault}
-use Rattle.recording.specs.declared.line.TextFault.TheVariants.{NotHexadecimal, HalfOctet}
+use Rattle.recording.specs.declared.fault.TextFault.{TextFault}
+use Rattle.recording.specs.declared.fault.TextFault.TheVariants.{NotHexadecimal, HalfOctet}
 
 -- What a character means: digits 0 to 9, A to F and a to f; space, tab and carriage return; the number sign.
 abbrev pub kind : ℕ → Character

@@ -1,6 +1,6 @@
 -- Lines of octets as they are written, and the law that reading gives back what was written.
 use Rattle.std.specs.Prelude.{◌≡◌, ℕ, ◌+◌, ◌-◌, ◌/◌, ◌%◌, ◌<◌, cond, List, [], ◌∷◌, length, take, Some, None, Option, Ok, Result, IsOk, nat_lt}
-use Rattle.recording.specs.declared.line.TextFault.{TextFault}
+use Rattle.recording.specs.declared.fault.TextFault.{TextFault}
 use Rattle.recording.specs.Lines.{Reading, start, steps}
 
 -- The blanks that may stand before, between and after octets.

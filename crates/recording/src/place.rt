@@ -3,7 +3,7 @@ ghost use Rattle.std.specs.Prelude.{◌≡◌};
 ghost use Rattle.recording.specs.Lines.{after, finished, told};
 
 use crate::character::{Character, Digit};
-use crate::line::TextFault;
+use crate::fault::TextFault;
 
 /// Where in a line a reader stands.
 #[derive(Clone, Copy, PartialEq, Eq, Debug)]

@@ -7,7 +7,7 @@ ghost use Rattle.recording.specs.Texts.{ReadsBack, ReadsOnly};
 
 use super::{LONGEST, Reader};
 use crate::character::Character;
-use crate::line::TextFault;
+use crate::fault::TextFault;
 use crate::place::Place;
 
 impl Reader {

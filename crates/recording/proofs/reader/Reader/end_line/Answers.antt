@@ -1,6 +1,6 @@
 -- The answer is that of the definitions, of which the laws are theorems.
 use Rattle.std.proofs.Common.{◌≡◌, ℕ, Result, sym, subst, rules}
-use Rattle.recording.specs.declared.line.TextFault.{TextFault}
+use Rattle.recording.specs.declared.fault.TextFault.{TextFault}
 use Rattle.recording.specs.Lines.{outcome}
 use Rattle.recording.specs.Readings.{reading}
 use Rattle.recording.specs.Texts.{ReadsBack, ReadsOnly}
