@@ -1,5 +1,5 @@
 -- What is read without a fault was written so.
-use Rattle.std.proofs.Common.{◌≡◌, ℕ, ◌+◌, ◌-◌, ◌*◌, ◌/◌, ◌%◌, ◌<◌, ◌≤◌, true, false, ◌⊎◌, List, [], ◌∷◌, Some, None, is_ok, IsOk, sym, refl, ap, ◌∙◌, subst, inl, inr, ⊎_elim, arith}
+use Rattle.std.proofs.Common.{◌≡◌, ℕ, ◌+◌, ◌-◌, ◌*◌, ◌/◌, ◌%◌, ◌<◌, ◌≤◌, true, false, ◌⊎◌, List, [], ◌∷◌, Some, None, Result, is_ok, IsOk, sym, refl, ap, ◌∙◌, subst, inl, inr, ⊎_elim, arith}
 use Rattle.std.proofs.lemmas.Bool.Decides.{leb_tells, eqb_tells, nat_tests}
 use Rattle.recording.specs.declared.character.Character.{Character}
 use Rattle.recording.specs.declared.character.Character.TheVariants.{Digit, Blank, Mark, Other}
@@ -43,7 +43,7 @@ on : (r : Reading) (c : ℕ) (k : Character) (text : List ℕ) → kind c ≡ k 
 on r c k text e h = subst (λ (x : Character). Clean (taken r x) text) e h
 
 never : false ≡ true → ⊥
-never h = let z : ◌≡◌ {A = ℕ} 0 1 = cc in omega arith
+never h = cc
 
 -- Behind a fault no line is without one.
 refused : (os : List ℕ) (column : ℕ) (f : TextFault) (text : List ℕ) → Clean (record { octets = os; column = column; place = Faulted f }) text → ⊥
@@ -106,5 +106,6 @@ accepts : (text : List ℕ) → Accepts text
 accepts [] = accepts_none
 accepts (c ∷ text) = accepts_more c text (accepts text)
 
-pub reads_only : (r : Reading) → ReadsOnly r (outcome r)
-reads_only r text e clean = (accepts text).from_between [] 0 (ap (λ (s : Reading). is_ok (outcome s)) (sym e) ∙ clean)
+pub reads_only : (r : Reading) (answer : Result ℕ TextFault) → answer ≡ outcome r → ReadsOnly r answer
+reads_only r answer answered text e clean =
+    (accepts text).from_between [] 0 (sym (ap is_ok answered ∙ ap (λ (s : Reading). is_ok (outcome s)) e) ∙ clean)

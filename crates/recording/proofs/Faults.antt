@@ -1,5 +1,6 @@
 -- An answer tells of the first fault of a line.
 use Rattle.std.proofs.Common.{◌≡◌, ℕ, suc, ◌+◌, ◌*◌, ◌^◌, ◌<◌, List, [], ◌∷◌, ◌++◌, length, Result, IfErr, sym, refl, ap, ◌∙◌, subst, append_assoc, arith, length-append}
+use Rattle.std.proofs.lemmas.List.Sums.{fold-append}
 use Rattle.recording.specs.declared.character.Character.{Character}
 use Rattle.recording.specs.declared.character.Character.TheVariants.{Digit, Blank, Mark, Other}
 use Rattle.recording.specs.declared.fault.TextFault.{TextFault}
@@ -12,14 +13,9 @@ use Rattle.recording.proofs.Runs.{between, half, two_digits, stays, comments}
 abbrev AnswersFor : List ℕ → Result ℕ TextFault → Type 0
 AnswersFor text answer = IfErr answer (Tells text)
 
--- A text read in two parts.
-steps_append : (r : Reading) (xs ys : List ℕ) → steps r (xs ++ ys) ≡ steps (steps r xs) ys
-steps_append r [] ys = refl
-steps_append r (x ∷ xs) ys = steps_append (step r x) xs ys
-
 -- One character on, what it means being known.
 read_on : (front : List ℕ) (r : Reading) (c : ℕ) (k : Character) → steps start front ≡ r → kind c ≡ k → steps start (front ++ c ∷ []) ≡ taken r k
-read_on front r c k e means = steps_append start front (c ∷ []) ∙ ap (λ (s : Reading). step s c) e ∙ ap (taken r) means
+read_on front r c k e means = fold-append step start front (c ∷ []) ∙ ap (λ (s : Reading). step s c) e ∙ ap (taken r) means
 
 -- What the rest of a line tells, from between two octets on and from behind a first digit on.
 record Rest (rest : List ℕ) : Type 0 where
@@ -54,7 +50,7 @@ half_on : (c : ℕ) (rest : List ℕ) → Rest rest → (k : Character) → kind
 half_on c rest later (Digit n) second front os column a d e first counts few =
     subst (λ (t : List ℕ). AnswersFor t (outcome (steps (between (joined os (16 * d + n)) (next (next column))) rest))) (append_assoc front (a ∷ c ∷ []) rest)
     (later.from_between (front ++ a ∷ c ∷ []) (joined os (16 * d + n)) (next (next column))
-    (steps_append start front (a ∷ c ∷ []) ∙ ap (λ (s : Reading). steps s (a ∷ c ∷ [])) e ∙ two_digits os column a c d n [] first second)
+    (fold-append step start front (a ∷ c ∷ []) ∙ ap (λ (s : Reading). steps s (a ∷ c ∷ [])) e ∙ two_digits os column a c d n [] first second)
     (simp length-append (omega arith)) (simp length-append (omega arith)))
 half_on c rest later Blank means front os column a d e first counts few =
     subst (λ (l : Result ℕ TextFault). AnswersFor (front ++ a ∷ c ∷ rest) l) (sym (stays os (next (next column)) (HalfOctet (next column)) rest))
@@ -76,6 +72,6 @@ rests (c ∷ rest) = record {
   from_half = half_on c rest (rests rest) (kind c) refl;
 }
 
-pub tells_first : (r : Reading) → TellsFirst r (outcome r)
-tells_first r text e few =
-    subst (λ (s : Reading). AnswersFor text (outcome s)) (sym e) ((rests text).from_between [] [] 0 refl refl (omega arith))
+pub tells_first : (r : Reading) (answer : Result ℕ TextFault) → answer ≡ outcome r → TellsFirst r answer
+tells_first r answer answered text e few =
+    subst (AnswersFor text) (sym (answered ∙ ap outcome e)) ((rests text).from_between [] [] 0 refl refl (omega arith))

@@ -1,5 +1,6 @@
 -- A line of a recording: what each character does, and what the line held when it ends.
 use Rattle.std.specs.Prelude.{ℕ, ◌+◌, ◌-◌, ◌*◌, ◌^◌, min, cond, ◌&&◌, ◌||◌, List, [], ◌∷◌, ◌++◌, length, Some, None, Option, Ok, Err, Result, ◌==◌, nat_le, nat_lt}
+use Rattle.std.specs.List.{fold}
 use Rattle.recording.specs.declared.character.Character.{Character}
 use Rattle.recording.specs.declared.character.Character.TheVariants.{Digit, Blank, Mark, Other}
 use Rattle.recording.specs.declared.place.Place.{Place}
@@ -59,6 +60,11 @@ pub record Reading : Type 0 where
   pub column : ℕ
   pub place : Place
 
+-- What was recorded: the line under way, and the octets of the line that has just ended, until the next one begins.
+pub record Recorded : Type 0 where
+  pub reading : Reading
+  pub latest : List ℕ
+
 -- Before the first character of a line.
 abbrev pub start : Reading
 start = record { octets = []; column = 0; place = Between }
@@ -77,8 +83,7 @@ step r c = taken r (kind c)
 
 -- After the characters of a text.
 abbrev pub steps : Reading → List ℕ → Reading
-steps r [] = r
-steps r (c ∷ text) = steps (step r c) text
+steps = fold step
 
 -- What a line held, by how many octets are stored, how many characters were read, and where it ended.
 abbrev pub told : ℕ → ℕ → Place → Result ℕ TextFault
