@@ -2,7 +2,6 @@
 use super::frames::print_frame;
 use super::totals::print_totals;
 use inspection::summary::Summary;
-use recording::line::{Line, TextFault};
 use recording::reader::Reader;
 use std::io;
 
@@ -12,22 +11,7 @@ pub struct Inspector {
     reader: Reader,
     /// The number of the line under way, from 1.
     line: u64,
-    /// The line under way has a character.
-    begun: bool,
     summary: Summary,
-}
-
-fn print_text_fault(rt: &HostRuntime, line: u64, fault: TextFault) -> io::Result<()> {
-    match fault {
-        TextFault::NotHexadecimal(column) => {
-            println!(rt; "{line}: not a line of octets: column {column} is no hexadecimal digit")
-        }
-        TextFault::HalfOctet(column) => {
-            println!(rt;
-                "{line}: not a line of octets: the digit in column {column} has no second digit"
-            )
-        }
-    }
 }
 
 impl Inspector {
@@ -36,7 +20,6 @@ impl Inspector {
         Inspector {
             reader: Reader::new(),
             line: 1,
-            begun: false,
             summary: Summary::new(),
         }
     }
@@ -46,7 +29,6 @@ impl Inspector {
         if character == b'\n' {
             return self.end_line(rt);
         }
-        self.begun = true;
         self.reader.feed(character);
         Ok(())
     }
@@ -55,22 +37,19 @@ impl Inspector {
     fn end_line(&mut self, rt: &HostRuntime) -> io::Result<()> {
         let line = self.line;
         self.line = line.saturating_add(1);
-        self.begun = false;
         match self.reader.end_line() {
-            Line::Empty => Ok(()),
-            Line::Octets(_) => print_frame(rt, line, self.reader.octets(), &mut self.summary),
-            Line::Faulty(fault) => {
+            Ok(0) => Ok(()),
+            Ok(_) => print_frame(rt, line, self.reader.octets(), &mut self.summary),
+            Err(fault) => {
                 self.summary.count_unreadable();
-                print_text_fault(rt, line, fault)
+                println!(rt; "{line}: not a line of octets: {fault}")
             }
         }
     }
 
-    /// Ends the recording: the last line need not end in a line's end.
+    /// Ends the recording: the last line need not end in a line's end. One that has not begun holds nothing.
     pub(crate) fn finish(&mut self, rt: &HostRuntime) -> io::Result<()> {
-        if self.begun {
-            self.end_line(rt)?;
-        }
+        self.end_line(rt)?;
         print_totals(rt, &self.summary)
     }
 }

@@ -1,12 +1,12 @@
 -- What is read without a fault was written so.
-use Rattle.std.proofs.Common.{◌≡◌, ℕ, ◌+◌, ◌-◌, ◌*◌, ◌/◌, ◌%◌, ◌<◌, ◌≤◌, true, false, ◌⊎◌, List, [], ◌∷◌, Some, None, sym, refl, ap, ◌∙◌, subst, inl, inr, ⊎_elim, arith}
+use Rattle.std.proofs.Common.{◌≡◌, ℕ, ◌+◌, ◌-◌, ◌*◌, ◌/◌, ◌%◌, ◌<◌, ◌≤◌, true, false, ◌⊎◌, List, [], ◌∷◌, Some, None, Result, is_ok, IsOk, sym, refl, ap, ◌∙◌, subst, inl, inr, ⊎_elim, arith}
 use Rattle.std.proofs.lemmas.Bool.Decides.{leb_tells, eqb_tells, nat_tests}
 use Rattle.recording.specs.declared.character.Character.{Character}
 use Rattle.recording.specs.declared.character.Character.TheVariants.{Digit, Blank, Mark, Other}
-use Rattle.recording.specs.declared.line.TextFault.{TextFault}
-use Rattle.recording.specs.declared.line.TextFault.TheVariants.{NotHexadecimal, HalfOctet}
+use Rattle.recording.specs.declared.fault.TextFault.{TextFault}
+use Rattle.recording.specs.declared.fault.TextFault.TheVariants.{NotHexadecimal, HalfOctet}
 use Rattle.recording.specs.declared.place.Place.TheVariants.{Faulted}
-use Rattle.recording.specs.Lines.{Reading, steps, taken, faultless, outcome, kind, joined, next}
+use Rattle.recording.specs.Lines.{Reading, steps, taken, outcome, kind, joined, next}
 use Rattle.recording.specs.Texts.{Blank as Gap, space, tab, carriage_return, blank_character, Case, upper, lower, digit_character, blank, octet, written, IsWritten, ReadsOnly}
 use Rattle.recording.proofs.Runs.{digit_kind, blank_kind, between, half, stays}
 
@@ -36,18 +36,18 @@ known c =
 
 -- The rest of the line has no fault either.
 abbrev Clean : Reading → List ℕ → Type 0
-Clean r text = faultless (outcome (steps r text)) ≡ true
+Clean r text = IsOk (outcome (steps r text))
 
 -- One character on.
 on : (r : Reading) (c : ℕ) (k : Character) (text : List ℕ) → kind c ≡ k → Clean r (c ∷ text) → Clean (taken r k) text
 on r c k text e h = subst (λ (x : Character). Clean (taken r x) text) e h
 
 never : false ≡ true → ⊥
-never h = let z : ◌≡◌ {A = ℕ} 0 1 = cc in omega arith
+never h = cc
 
 -- Behind a fault no line is without one.
 refused : (os : List ℕ) (column : ℕ) (f : TextFault) (text : List ℕ) → Clean (record { octets = os; column = column; place = Faulted f }) text → ⊥
-refused os column f text h = never (sym (ap faultless (stays os column f text)) ∙ h)
+refused os column f text h = never (sym (ap is_ok (stays os column f text)) ∙ h)
 
 -- One more blank at the front.
 then_blank : (c : ℕ) (b : Gap) (text : List ℕ) → c ≡ blank_character b → IsWritten text → IsWritten (c ∷ text)
@@ -106,5 +106,6 @@ accepts : (text : List ℕ) → Accepts text
 accepts [] = accepts_none
 accepts (c ∷ text) = accepts_more c text (accepts text)
 
-pub reads_only : (r : Reading) → ReadsOnly r (outcome r)
-reads_only r text e clean = (accepts text).from_between [] 0 (ap (λ (s : Reading). faultless (outcome s)) (sym e) ∙ clean)
+pub reads_only : (r : Reading) (answer : Result ℕ TextFault) → answer ≡ outcome r → ReadsOnly r answer
+reads_only r answer answered text e clean =
+    (accepts text).from_between [] 0 (sym (ap is_ok answered ∙ ap (λ (s : Reading). is_ok (outcome s)) e) ∙ clean)

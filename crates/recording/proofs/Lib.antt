@@ -1,4 +1,3 @@
-pub mod Storing
 pub mod Runs
 pub mod Written
 pub mod Accepted

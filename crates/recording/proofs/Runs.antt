@@ -1,12 +1,11 @@
 -- What runs of characters do to the reading of a line.
-use Rattle.std.proofs.Common.{◌≡◌, ℕ, ◌+◌, ◌*◌, ◌<◌, List, [], ◌∷◌, length, refl, ap, ◌∙◌, arith}
+use Rattle.std.proofs.Common.{◌≡◌, ℕ, ◌+◌, ◌*◌, ◌<◌, List, [], ◌∷◌, length, Ok, Err, refl, ap, ◌∙◌, arith}
 use Rattle.std.proofs.lemmas.Bool.Decides.{nat_tests}
 use Rattle.recording.specs.declared.character.Character.{Character}
 use Rattle.recording.specs.declared.character.Character.TheVariants.{Digit, Blank}
-use Rattle.recording.specs.declared.line.Line.TheVariants.{Faulty}
-use Rattle.recording.specs.declared.line.TextFault.{TextFault}
+use Rattle.recording.specs.declared.fault.TextFault.{TextFault}
 use Rattle.recording.specs.declared.place.Place.TheVariants.{Between, Half, Comment, Faulted}
-use Rattle.recording.specs.Lines.{Reading, steps, taken, counted, outcome, kind, joined, next}
+use Rattle.recording.specs.Lines.{Reading, steps, taken, outcome, kind, joined, next}
 use Rattle.recording.specs.Texts.{Blank as Gap, space, tab, carriage_return, blank_character, Case, upper, lower, digit_character}
 
 -- A digit reads as its value.
@@ -37,14 +36,14 @@ two_digits os column a b h l text first second =
 
 -- A fault stays to the end of the line.
 pub stays : (os : List ℕ) (column : ℕ) (f : TextFault) (text : List ℕ) →
-    outcome (steps (record { octets = os; column = column; place = Faulted f }) text) ≡ Faulty f
+    outcome (steps (record { octets = os; column = column; place = Faulted f }) text) ≡ Err f
 stays os column f [] = refl
 stays os column f (c ∷ text) = stays os (next column) f text
 
 -- A line that was read to here holds these octets, and has no fault.
 pub record Holds (r : Reading) (os : List ℕ) : Type 0 where
   pub same : r.octets ≡ os
-  pub clean : outcome r ≡ counted (length os)
+  pub clean : outcome r ≡ Ok (length os)
 
 -- A comment changes nothing.
 pub comments : (os : List ℕ) (column : ℕ) (text : List ℕ) → Holds (steps (record { octets = os; column = column; place = Comment }) text) os

@@ -1,11 +1,9 @@
 -- What the fault of a line says of its characters.
-use Rattle.std.specs.Prelude.{◌≡◌, ℕ, ◌+◌, ◌^◌, ◌<◌, Bool, true, false, List, [], ◌∷◌, ◌++◌, length}
+use Rattle.std.specs.Prelude.{◌≡◌, ℕ, ◌+◌, ◌^◌, ◌<◌, Bool, true, false, List, [], ◌∷◌, ◌++◌, length, Result, IfErr}
 use Rattle.recording.specs.declared.character.Character.{Character}
 use Rattle.recording.specs.declared.character.Character.TheVariants.{Digit, Blank, Mark, Other}
-use Rattle.recording.specs.declared.line.Line.{Line}
-use Rattle.recording.specs.declared.line.Line.TheVariants.{Empty, Octets, Faulty}
-use Rattle.recording.specs.declared.line.TextFault.{TextFault}
-use Rattle.recording.specs.declared.line.TextFault.TheVariants.{NotHexadecimal, HalfOctet}
+use Rattle.recording.specs.declared.fault.TextFault.{TextFault}
+use Rattle.recording.specs.declared.fault.TextFault.TheVariants.{NotHexadecimal, HalfOctet}
 use Rattle.recording.specs.declared.place.Place.{Place}
 use Rattle.recording.specs.declared.place.Place.TheVariants.{Between, Half, Comment, Faulted}
 use Rattle.recording.specs.Lines.{Reading, kind, start, steps}
@@ -44,12 +42,6 @@ Tells text (NotHexadecimal n) = (s : Stands text n) × (waits (steps start s.bef
 Tells text (HalfOctet n) =
     (s : Stands text n) × ((steps start s.before).place ≡ Between) × (is_digit (kind s.here) ≡ true) × (goes_on s.behind ≡ false)
 
--- What an answer tells of a text: an answer without a fault tells of none.
-abbrev pub AnswersFor : List ℕ → Line → Type 0
-AnswersFor text Empty = Unit {0}
-AnswersFor text (Octets n) = Unit {0}
-AnswersFor text (Faulty f) = Tells text f
-
--- Where the characters of a text were read from the line's start on, fewer than a column can count, the answer tells of its first fault.
-abbrev pub TellsFirst : Reading → Line → Type 0
-TellsFirst r answer = (text : List ℕ) → r ≡ steps start text → length text < 2 ^ 64 → AnswersFor text answer
+-- Where the characters of a text were read from the line's start on, fewer than a column can count, a fault that is answered is the text's first.
+abbrev pub TellsFirst : Reading → Result ℕ TextFault → Type 0
+TellsFirst r answer = (text : List ℕ) → r ≡ steps start text → length text < 2 ^ 64 → IfErr answer (Tells text)

@@ -1,12 +1,12 @@
 -- A line of a recording: what each character does, and what the line held when it ends.
-use Rattle.std.specs.Prelude.{ℕ, ◌+◌, ◌-◌, ◌*◌, ◌^◌, min, Bool, true, false, cond, ◌&&◌, ◌||◌, List, [], ◌∷◌, ◌++◌, length, Some, None, Option, ◌==◌, nat_le, nat_lt}
+use Rattle.std.specs.Prelude.{ℕ, ◌+◌, ◌-◌, ◌*◌, ◌^◌, min, cond, ◌&&◌, ◌||◌, List, [], ◌∷◌, ◌++◌, length, Some, None, Option, Ok, Err, Result, ◌==◌, nat_le, nat_lt}
+use Rattle.std.specs.List.{fold}
 use Rattle.recording.specs.declared.character.Character.{Character}
 use Rattle.recording.specs.declared.character.Character.TheVariants.{Digit, Blank, Mark, Other}
 use Rattle.recording.specs.declared.place.Place.{Place}
 use Rattle.recording.specs.declared.place.Place.TheVariants.{Between, Half, Comment, Faulted}
-use Rattle.recording.specs.declared.line.TextFault.TheVariants.{NotHexadecimal, HalfOctet}
-use Rattle.recording.specs.declared.line.Line.{Line}
-use Rattle.recording.specs.declared.line.Line.TheVariants.{Empty, Octets, Faulty}
+use Rattle.recording.specs.declared.fault.TextFault.{TextFault}
+use Rattle.recording.specs.declared.fault.TextFault.TheVariants.{NotHexadecimal, HalfOctet}
 
 -- What a character means: digits 0 to 9, A to F and a to f; space, tab and carriage return; the number sign.
 abbrev pub kind : ℕ → Character
@@ -16,20 +16,6 @@ kind c =
     (cond (nat_le 97 c && nat_le c 102) (Digit (c - 87))
     (cond (c == 32 || (c == 9 || c == 13)) Blank
     (cond (c == 35) Mark Other))))
-
--- A digit's value is below 16.
-abbrev pub low : Character → Bool
-low (Digit d) = nat_lt d 16
-low Blank = true
-low Mark = true
-low Other = true
-
--- The value of a first digit is below 16.
-abbrev pub pending : Place → Bool
-pending Between = true
-pending (Half d) = nat_lt d 16
-pending Comment = true
-pending (Faulted f) = true
 
 -- The next column: it stays at the largest number that 64 bits hold.
 abbrev pub next : ℕ → ℕ
@@ -74,6 +60,11 @@ pub record Reading : Type 0 where
   pub column : ℕ
   pub place : Place
 
+-- What was recorded: the line under way, and the octets of the line that has just ended, until the next one begins.
+pub record Recorded : Type 0 where
+  pub reading : Reading
+  pub latest : List ℕ
+
 -- Before the first character of a line.
 abbrev pub start : Reading
 start = record { octets = []; column = 0; place = Between }
@@ -92,26 +83,15 @@ step r c = taken r (kind c)
 
 -- After the characters of a text.
 abbrev pub steps : Reading → List ℕ → Reading
-steps r [] = r
-steps r (c ∷ text) = steps (step r c) text
-
--- What a line without a fault held, by how many octets are stored.
-abbrev pub counted : ℕ → Line
-counted n = cond (n == 0) Empty (Octets n)
+steps = fold step
 
 -- What a line held, by how many octets are stored, how many characters were read, and where it ended.
-abbrev pub told : ℕ → ℕ → Place → Line
-told n column Between = counted n
-told n column (Half h) = Faulty (HalfOctet column)
-told n column Comment = counted n
-told n column (Faulted f) = Faulty f
-
--- Whether a line has no fault.
-abbrev pub faultless : Line → Bool
-faultless Empty = true
-faultless (Octets n) = true
-faultless (Faulty f) = false
+abbrev pub told : ℕ → ℕ → Place → Result ℕ TextFault
+told n column Between = Ok n
+told n column (Half h) = Err (HalfOctet column)
+told n column Comment = Ok n
+told n column (Faulted f) = Err f
 
 -- What a line held that ends here.
-abbrev pub outcome : Reading → Line
+abbrev pub outcome : Reading → Result ℕ TextFault
 outcome r = told (length r.octets) r.column r.place

@@ -1,12 +1,12 @@
 -- What a reader has of the line under way, and of the one before.
-use Rattle.std.specs.Prelude.{ℕ, List, take}
+use Rattle.std.specs.Prelude.{ℕ, List, [], cond, ◌==◌}
 use Rattle.recording.specs.Lines.{Reading}
-use Rattle.recording.specs.declared.reader.Reader.{Reader}
+use Rattle.recording.specs.declared.reader.Reader.TheInside.{Inside}
 
 -- The line under way.
-abbrev pub reading : Reader → Reading
-reading r = record { octets = take r.count r.stored; column = r.column; place = r.place }
+abbrev pub reading : Inside → Reading
+reading r = record { octets = cond (r.column == 0) [] r.octets.items; column = r.column; place = r.place }
 
--- The octets of the line that has just ended.
-abbrev pub latest : Reader → List ℕ
-latest r = take r.ended r.stored
+-- The octets of the line that has just ended, until the next one begins.
+abbrev pub latest : Inside → List ℕ
+latest r = cond (r.column == 0) r.octets.items []

@@ -1,7 +1,7 @@
 -- Lines of octets as they are written, and the law that reading gives back what was written.
-use Rattle.std.specs.Prelude.{◌≡◌, ℕ, ◌+◌, ◌-◌, ◌/◌, ◌%◌, ◌<◌, true, cond, List, [], ◌∷◌, length, take, Some, None, Option, nat_lt}
-use Rattle.recording.specs.declared.line.Line.{Line}
-use Rattle.recording.specs.Lines.{Reading, start, steps, counted, faultless}
+use Rattle.std.specs.Prelude.{◌≡◌, ℕ, ◌+◌, ◌-◌, ◌/◌, ◌%◌, ◌<◌, cond, List, [], ◌∷◌, length, take, Some, None, Option, Ok, Result, IsOk, nat_lt}
+use Rattle.recording.specs.declared.fault.TextFault.{TextFault}
+use Rattle.recording.specs.Lines.{Reading, start, steps}
 
 -- The blanks that may stand before, between and after octets.
 pub data Blank : Type 0 where
@@ -55,10 +55,10 @@ Sound (octet h l o ∷ ps) = (o < 256) × Sound ps
 
 -- Reading gives back what was written: where the characters of a written line were read from the line's start on,
 -- the octets are the line's, the first 2,049 of them if it has more, and the answer is how many.
-abbrev pub ReadsBack : Reading → Line → List ℕ → Type 0
+abbrev pub ReadsBack : Reading → Result ℕ TextFault → List ℕ → Type 0
 ReadsBack r answer octets =
     (ps : List Piece) (comment : Option (List ℕ)) → Sound ps → r ≡ steps start (written ps comment) →
-    (octets ≡ take 2049 (octets_of ps)) × (answer ≡ counted (length (take 2049 (octets_of ps))))
+    (octets ≡ take 2049 (octets_of ps)) × (answer ≡ Ok (length (take 2049 (octets_of ps))))
 
 -- A text that is a written line, with its pieces and its comment.
 pub record IsWritten (text : List ℕ) : Type 0 where
@@ -68,5 +68,5 @@ pub record IsWritten (text : List ℕ) : Type 0 where
   pub same : written pieces comment ≡ text
 
 -- Nothing else is read without a fault: where the answer tells of none, the characters that were read are those of a written line.
-abbrev pub ReadsOnly : Reading → Line → Type 0
-ReadsOnly r answer = (text : List ℕ) → r ≡ steps start text → faultless answer ≡ true → IsWritten text
+abbrev pub ReadsOnly : Reading → Result ℕ TextFault → Type 0
+ReadsOnly r answer = (text : List ℕ) → r ≡ steps start text → IsOk answer → IsWritten text

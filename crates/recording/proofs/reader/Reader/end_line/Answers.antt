@@ -1,24 +1,15 @@
 -- The answer is that of the definitions, of which the laws are theorems.
-use Rattle.std.proofs.Common.{◌≡◌, sym, subst, rules}
-use Rattle.recording.specs.declared.line.Line.{Line}
-use Rattle.recording.specs.Lines.{outcome}
-use Rattle.recording.specs.Readings.{reading}
-use Rattle.recording.specs.Texts.{ReadsBack, ReadsOnly}
-use Rattle.recording.specs.Faults.{TellsFirst}
+use Rattle.std.proofs.Common.{rules}
 use Rattle.recording.proofs.Written.{reads_back}
 use Rattle.recording.proofs.Accepted.{reads_only}
 use Rattle.recording.proofs.Faults.{tells_first}
 use Rattle.recording.proofs.reader.Reader.end_line.Goals as goal
 
-pub returns : goal.returns
-returns c =
-    let before = reading c.args.self.now in
-    let answers : c.conclude-line.result ≡ outcome before = search rules in
-    record {
-      answer = answers;
-      reading = search rules;
-      latest = search rules;
-      written = subst (λ (l : Line). ReadsBack before l before.octets) (sym answers) (reads_back before);
-      only = subst (λ (l : Line). ReadsOnly before l) (sym answers) (reads_only before);
-      first = subst (λ (l : Line). TellsFirst before l) (sym answers) (tells_first before);
-    }
+pub returns-clause-written : goal.returns-clause-written
+returns-clause-written c = reads_back _ _ _ (search rules) (search rules)
+
+pub returns-clause-only : goal.returns-clause-only
+returns-clause-only c = reads_only _ _ (search rules)
+
+pub returns-clause-first : goal.returns-clause-first
+returns-clause-first c = tells_first _ _ (search rules)
