@@ -79,7 +79,7 @@ pub fn put_first(octets: &[u8], buffer: &mut [u8]) -> Option<usize>
     Some(count)
 }
 
-/// A value with one encoding in octets, of a frame's length at most.
+/// A value with one encoding in octets.
 pub trait Encode {
     /// Why a value is not written.
     type Fault;
@@ -94,9 +94,6 @@ pub trait Encode {
     fn write(self, buffer: &mut [u8]) -> Result<usize, Self::Fault>
         ensures answer { result ≡ write_answer no_room (encoded self) buffer.old }
         ensures after { buffer.new ≡ written (encoded self) buffer.old };
-
-    // No encoding is longer than the longest frame.
-    ghost short: { (value : Self) (octets : List ℕ) → encoded value ≡ Ok octets → length octets ≤ 2048 };
 }
 
 /// Taking apart and putting together undo each other, for every layout.
