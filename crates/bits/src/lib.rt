@@ -5,7 +5,7 @@
 //! octets, and the octets of a word. All of it is plain arithmetic on at most 128 bits: no layer is known here.
 #![tactic(auto)]
 
-ghost use Rattle.std.specs.Prelude.{◌≡◌, ℕ, ◌/◌, ◌%◌, ◌^◌, ◌≤◌, List, length, Ok, Result, ◌==◌};
+ghost use Rattle.std.specs.Prelude.{◌≡◌, ℕ, ◌/◌, ◌%◌, ◌^◌, List, Result, ◌==◌};
 ghost use Rattle.bits.specs.Codec.{put, put_answer, write_answer, written};
 ghost use Rattle.bits.specs.Layout.{assembled, cut, number, octets, CutUndoesJoin, JoinUndoesCut};
 
