@@ -1,7 +1,8 @@
 -- A frame survives both ways through its octets.
-use Rattle.std.proofs.Common.{◌≡◌, ℕ, suc, ◌+◌, ◌-◌, ◌<◌, ◌≤◌, Bool, true, false, cond, ◌&&◌, ltb, leb, List, [], ◌∷◌, ◌++◌, length, get_or, take, drop, set, IfOk, Some, None, Ok, Err, Option, Result, sym, refl, ap, ◌∙◌, arith}
+use Rattle.std.proofs.Common.{◌≡◌, ℕ, suc, ◌+◌, ◌-◌, ◌<◌, ◌≤◌, Bool, true, false, cond, ◌&&◌, ltb, leb, List, [], ◌∷◌, ◌++◌, length, get_or, take, drop, IfOk, Some, None, Ok, Err, Option, Result, sym, refl, ap, ◌∙◌, arith}
 use borrow.Rule.Slice.PartMut.{put_mid}
 use Rattle.std.proofs.lemmas.Bool.{lt-ltb, le-ltb}
+use Rattle.std.proofs.lemmas.List.{drop-drop}
 use Rattle.std.proofs.lemmas.Bool.Decides.{nat_tests}
 use Rattle.bits.specs.Layout.{cut, join, fits, octets, number}
 use Rattle.bits.specs.Codec.{encoding, beginning}
@@ -44,6 +45,10 @@ header_back : (h : Header) (last : ℕ) → header_of (header_fields h last) ≡
 header_back h last =
     ap (with_construction (header_fields h last)) (construction_back h.construction)
     ∙ rw (quality_back h.quality, kind_back h.kind, id_back h.id_of)
+
+-- what reading answers at so many octets
+pub read_sized : (o : List ℕ) → 5 ≤ length o → length o ≤ 2048 → read_frame o ≡ read_fields (cut header_layout (number (take 5 o))) (length o) (drop 5 o)
+read_sized o h k = grind (arith, nat_tests)
 
 -- what reading answers at a frame's own octets
 abbrev pub judged : FrameValue → Result FrameValue FrameFault
@@ -168,23 +173,12 @@ writing_undoes (a ∷ b ∷ c ∷ []) f t r = absurd (omega (arith, (sized (a �
 writing_undoes (a ∷ b ∷ c ∷ d ∷ []) f t r = absurd (omega (arith, (sized (a ∷ b ∷ c ∷ d ∷ []) f r).0))
 writing_undoes (a ∷ b ∷ c ∷ d ∷ e ∷ rest) f t r = named a b c d e rest f (front_octets 5 (a ∷ b ∷ c ∷ d ∷ e ∷ rest) t) r
 
--- a frame with five octets or more begins with five octets
-pub five_first : (o : List ℕ) → 5 ≤ length o → take 5 o ≡ get_or o 0 0 ∷ get_or o 1 0 ∷ get_or o 2 0 ∷ get_or o 3 0 ∷ get_or o 4 0 ∷ []
-five_first [] h = absurd (omega arith)
-five_first (_ ∷ []) h = absurd (omega arith)
-five_first (_ ∷ _ ∷ []) h = absurd (omega arith)
-five_first (_ ∷ _ ∷ _ ∷ []) h = absurd (omega arith)
-five_first (_ ∷ _ ∷ _ ∷ _ ∷ []) h = absurd (omega arith)
-five_first (_ ∷ _ ∷ _ ∷ _ ∷ _ ∷ o) h = refl
-
--- what a buffer holds after five octets and a part are written to it
-pub five_then : (xs ys : List ℕ) (a b c d e : ℕ) → 5 ≤ length xs → put_mid 5 (length ys + 5 - 5) (set (set (set (set (set xs 0 a) 1 b) 2 c) 3 d) 4 e) ys ≡ beginning (a ∷ b ∷ c ∷ d ∷ e ∷ ys) xs
-five_then [] ys a b c d e h = absurd (omega arith)
-five_then (_ ∷ []) ys a b c d e h = absurd (omega arith)
-five_then (_ ∷ _ ∷ []) ys a b c d e h = absurd (omega arith)
-five_then (_ ∷ _ ∷ _ ∷ []) ys a b c d e h = absurd (omega arith)
-five_then (_ ∷ _ ∷ _ ∷ _ ∷ []) ys a b c d e h = absurd (omega arith)
-five_then (_ ∷ _ ∷ _ ∷ _ ∷ _ ∷ xs) ys a b c d e h = let shorter : length ys + 5 - 5 ≡ length ys = omega arith in rw shorter
+-- what a buffer holds after a header and a data field are written to it
+pub header_then : (word : ℕ) (payload buffer : List ℕ) → put_mid 5 (length payload + 5 - 5) (cut (octets 5) word ++ drop 5 buffer) payload ≡ beginning (cut (octets 5) word ++ payload) buffer
+header_then word payload buffer =
+    let same : length payload + 5 - 5 ≡ length payload = omega arith in
+    let more : 5 + length payload ≡ length (cut (octets 5) word ++ payload) = omega arith in
+    rw (same, drop-drop (length payload) 5 buffer, more)
 
 -- the four ways of a writing
 pub too_wide : (f : FrameValue) → fits header_layout (fields_of f) ≡ false → encoded f ≡ Err fault.TooWide
@@ -208,6 +202,9 @@ not_allowed f w n a = encodes_as f w ∙ ap (λ t. decided f t (fine f)) (lt-ltb
 
 pub encodes : (f : FrameValue) → fits header_layout (fields_of f) ≡ true → 0 < length f.payload → fine f ≡ true → encoded f ≡ Ok (frame_octets f)
 encodes f w n a = encodes_as f w ∙ ap (λ t. decided f t (fine f)) (lt-ltb 0 (length f.payload) n) ∙ ap (decided f true) a
+
+pub encoded_cases : (f : FrameValue) → encoded f ≡ cond (fits header_layout (fields_of f)) (cond (ltb 0 (length f.payload)) (cond (fine f) (Ok (frame_octets f)) (Err fault.Construction)) (Err fault.NoData)) (Err fault.TooWide)
+encoded_cases f = encoded_is f ∙ grind (arith, nat_tests)
 
 -- what was read is encoded as it was
 pub undone : (o : List ℕ) (r : Result Frame FrameFault) → ((i : ℕ) → get_or o i 0 < 256) → seen r ≡ read_frame o → IfOk r (λ f. encoded (frame_value f) ≡ Ok o)
