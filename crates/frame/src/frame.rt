@@ -10,7 +10,7 @@ use super::header::{Header, header_of, header_word, is_allowed};
 use bits::{field, octets_of, word};
 
 /// A frame: its header, and its data field.
-#[derive(Clone, Copy)]
+#[derive(Clone, Copy, PartialEq, Eq, Debug)]
 pub struct Frame<'a> {
     pub header: Header,
     pub payload: &'a [u8],

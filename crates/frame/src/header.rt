@@ -41,7 +41,7 @@ pub enum IdOf {
 }
 
 /// The fields of a header, but for the version and the length, which follow from the rest of the frame.
-#[derive(Clone, Copy)]
+#[derive(Clone, Copy, PartialEq, Eq, Debug)]
 pub struct Header {
     pub quality: Quality,
     pub kind: Kind,
