@@ -3,11 +3,12 @@ ghost use Rattle.std.specs.Prelude.{◌≡◌, take, IfOk, Ok};
 ghost use Rattle.bits.specs.Codec.{write_answer, written};
 ghost use Rattle.bits.specs.Layout.{cut};
 ghost use Rattle.frame.specs.Header.{header_layout};
+ghost use Rattle.frame.specs.declared.fault.FrameFault.TheVariants as fault;
 ghost use Rattle.frame.specs.Frame.{encoded, frame_value, read_fields, read_frame, seen};
 
 use super::fault::FrameFault;
 use super::header::{Header, header_of, header_word, is_allowed};
-use bits::{field, octets_of, word};
+use bits::{Encode, field, octets_of, word};
 
 /// A frame: its header, and its data field.
 #[derive(Clone, Copy, PartialEq, Eq, Debug)]
@@ -67,4 +68,16 @@ pub fn write_frame(frame: Frame<'_>, buffer: &mut [u8]) -> Result<usize, FrameFa
     buffer[..5].copy_from_slice(&[a, b, c, d, e]);
     buffer[5..length + 5].copy_from_slice(payload);
     Ok(length + 5)
+}
+
+impl Encode for Frame<'_> {
+    type Fault = FrameFault;
+
+    ghost encoded = { λ frame. encoded (frame_value frame) };
+
+    ghost no_room = { fault.Buffer };
+
+    fn write(self, buffer: &mut [u8]) -> Result<usize, FrameFault> {
+        write_frame(self, buffer)
+    }
 }
