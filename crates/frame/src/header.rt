@@ -6,6 +6,7 @@ ghost use Rattle.frame.specs.Header.{allowed, bit, construction_of, header_field
 
 use super::fault::FrameFault;
 use bits::{assemble, field, is_set};
+use std::fmt;
 
 /// How a frame is delivered.
 #[derive(Clone, Copy, PartialEq, Eq, Debug)]
@@ -97,6 +98,43 @@ impl TryFrom<u128> for Construction {
             3 => Ok(Construction::UserOctets),
             _ => Err(FrameFault::Construction),
         }
+    }
+}
+
+impl fmt::Display for Quality {
+    fn fmt<W: fmt::Write>(&self, f: &mut fmt::Formatter<W>) -> fmt::Result {
+        f.write_str(match self {
+            Quality::SequenceControlled => "sequence-controlled",
+            Quality::Expedited => "expedited",
+        })
+    }
+}
+
+impl fmt::Display for Kind {
+    fn fmt<W: fmt::Write>(&self, f: &mut fmt::Formatter<W>) -> fmt::Result {
+        f.write_str(match self {
+            Kind::User => "user",
+            Kind::Supervisory => "supervisory",
+        })
+    }
+}
+
+impl fmt::Display for Construction {
+    fn fmt<W: fmt::Write>(&self, f: &mut fmt::Formatter<W>) -> fmt::Result {
+        f.write_str(match self {
+            Construction::Packets => "packets",
+            Construction::Segments => "segments",
+            Construction::UserOctets => "user octets",
+        })
+    }
+}
+
+impl fmt::Display for IdOf {
+    fn fmt<W: fmt::Write>(&self, f: &mut fmt::Formatter<W>) -> fmt::Result {
+        f.write_str(match self {
+            IdOf::Source => "source",
+            IdOf::Destination => "destination",
+        })
     }
 }
 
