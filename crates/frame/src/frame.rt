@@ -77,6 +77,7 @@ impl Encode for Frame<'_> {
 
     ghost no_room = { fault.Buffer };
 
+    // A call of its own does the work, since it promises more: that reading undoes it.
     fn write(self, buffer: &mut [u8]) -> Result<usize, FrameFault> {
         write_frame(self, buffer)
     }

@@ -150,6 +150,7 @@ pub fn is_allowed(kind: Kind, quality: Quality, construction: Construction) -> b
 }
 
 /// The header of which `word` is the five octets, if its construction is one and its kind allows it.
+// No TryFrom: whether a word is a header hangs on its version and length too, which the reader of a frame tests.
 pub fn header_of(word: u128) -> Option<Header>
     ensures { result ≡ header_of (cut header_layout word) }
 {

@@ -32,6 +32,7 @@ impl fmt::Display for Layer {
 }
 
 /// A refusal by one of the layers.
+// Three calls and no record of the three: most impls answer the number and the layer in one word each.
 pub trait Fault {
     ghost told: { Self → Place };
 

@@ -7,17 +7,17 @@ use Rattle.bits.proofs.Codecs.{some_tells, puts_known}
 use Rattle.frame.specs.Header.{header_layout}
 use Rattle.frame.specs.Frame.{frame_value, fields_of, encoded, read_frame, frame_octets}
 use Rattle.frame.specs.declared.fault.FrameFault.TheVariants as fault
-use Rattle.frame.proofs.Trips.{encodes, encoded_cases, header_then, reading_undoes}
+use Rattle.frame.proofs.Trips.{encodes, encoded_is, header_then, reading_undoes}
 use Rattle.frame.proofs.frame.write_frame.Goals as goal
 
 pub returns-in_err-word : goal.returns-in_err-word
-returns-in_err-word c = rw (encoded_cases (frame_value c.args.frame)) (grind (arith, nat_tests))
+returns-in_err-word c = rw (encoded_is (frame_value c.args.frame)) (grind (arith, nat_tests))
 
 pub returns-then-not-is_allowed : goal.returns-then-not-is_allowed
-returns-then-not-is_allowed c = rw (encoded_cases (frame_value c.args.frame)) (grind (arith, nat_tests))
+returns-then-not-is_allowed c = rw (encoded_is (frame_value c.args.frame)) (grind (arith, nat_tests))
 
 pub returns-then-buffer-length : goal.returns-then-buffer-length
-returns-then-buffer-length c = rw (encoded_cases (frame_value c.args.frame)) (grind (arith, nat_tests))
+returns-then-buffer-length c = rw (encoded_is (frame_value c.args.frame)) (grind (arith, nat_tests))
 
 pub returns : goal.returns
 returns c =
