@@ -20,6 +20,6 @@ returns c =
     let answer : seen c.frame_of.result ≡ read_frame o =
     c.frame_of.ensures
     ∙ ap (λ w. read_fields (cut header_layout w) (length o) c.in_ok-header.payload.now) word
-    ∙ rw (parts.2, read_sized o parts.0 c.if-octets-gt2048.false)
+    ∙ rw (parts.2, read_sized o parts.0 (omega arith))
     in
     record { answer = answer; undone = undone o c.frame_of.result bytes answer }

@@ -26,7 +26,7 @@ returns c =
     let told = some_tells (fits header_layout (fields_of f)) (join header_layout (fields_of f)) c.in_ok-word.word (sym c.in_ok-word.ensures.ok_part ∙ c.header_word.ensures) in
     let o : encoded f ≡ Ok (frame_octets f) = encodes f told.0 (omega arith) (search rules) in
     let size : length f.payload + 5 ≡ length (frame_octets f) = omega arith in
-    let room : leb (length (frame_octets f)) (length b) ≡ true = le-leb (length (frame_octets f)) (length b) (omega (arith, c.if-buffer-length.false)) in
+    let room : leb (length (frame_octets f)) (length b) ≡ true = le-leb (length (frame_octets f)) (length b) (omega arith) in
     let header : c.copy_from_slice.new.self ≡ cut (octets 5) (join header_layout (fields_of f)) = simp (c.copy_from_slice.ensures.after, c.octets_of.ensures, told.1) in
     let p = puts_known fault.Buffer (encoded f) read_frame f (frame_octets f) b _ _ o (reading_undoes f (frame_octets f) o)
     (rw room (ap Ok size))
