@@ -33,7 +33,7 @@ abbrev pub fine : FrameValue → Bool
 fine f = allowed f.header.kind f.header.quality f.header.construction
 
 -- what reading answers at a frame's own octets
-abbrev judged : FrameValue → Result FrameValue FrameFault
+abbrev pub judged : FrameValue → Result FrameValue FrameFault
 judged f = cond (ltb 0 (length f.payload)) (cond (fine f) (Ok f) (Err fault.Construction)) (Err fault.NoData)
 
 pub own_octets : (f : FrameValue) → fits header_layout (fields_of f) ≡ true → read_frame (frame_octets f) ≡ judged f
