@@ -5,8 +5,8 @@
 //! octets, and the octets of a word. All of it is plain arithmetic on at most 128 bits: no layer is known here.
 #![tactic(auto)]
 
-ghost use Rattle.std.specs.Prelude.{◌≡◌, ◌/◌, ◌%◌, ◌^◌};
-ghost use Rattle.bits.specs.Codec.{put, put_answer};
+ghost use Rattle.std.specs.Prelude.{◌≡◌, ℕ, ◌/◌, ◌%◌, ◌^◌, List, Result, ◌==◌};
+ghost use Rattle.bits.specs.Codec.{put, put_answer, write_answer, written};
 ghost use Rattle.bits.specs.Layout.{assembled, cut, number, octets, CutUndoesJoin, JoinUndoesCut};
 
 /// The field of `width` bits that has `shift` bits of the word below it.
@@ -21,6 +21,13 @@ pub fn field(word: u128, shift: u32, width: u32) -> u128
         return high;
     }
     high & ((1 << width) - 1)
+}
+
+/// Whether the bit is set that has so many bits of the word below it.
+pub fn is_set(word: u128, below: u32) -> bool
+    ensures { result ≡ (word / 2 ^ below % 2 == 1) }
+{
+    field(word, below, 1) == 1
 }
 
 /// The word of these fields, each a width and a value, the most significant first. None where a value is wider than
@@ -70,6 +77,23 @@ pub fn put_first(octets: &[u8], buffer: &mut [u8]) -> Option<usize>
     }
     buffer[0..count].copy_from_slice(octets);
     Some(count)
+}
+
+/// A value with one encoding in octets.
+pub trait Encode {
+    /// Why a value is not written.
+    type Fault;
+
+    // The octets of the one encoding, or why there is none.
+    ghost encoded: { Self → Result (List ℕ) Self.Fault };
+
+    // The refusal of a buffer without room for them.
+    ghost no_room: { Self.Fault };
+
+    /// Puts the octets of the value first into the buffer, and answers how many they are. The rest of the buffer stays.
+    fn write(self, buffer: &mut [u8]) -> Result<usize, Self::Fault>
+        ensures answer { result ≡ write_answer no_room (encoded self) buffer.old }
+        ensures after { buffer.new ≡ written (encoded self) buffer.old };
 }
 
 /// Taking apart and putting together undo each other, for every layout.

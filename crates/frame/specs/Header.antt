@@ -19,6 +19,10 @@ header_layout = 2 ∷ 1 ∷ 1 ∷ 2 ∷ 10 ∷ 1 ∷ 3 ∷ 1 ∷ 11 ∷ 8 ∷ []
 abbrev pub version : ℕ
 version = 2
 
+-- a field of one bit
+abbrev pub bit : Bool → ℕ
+bit set = cond set 1 0
+
 abbrev pub quality_code : Quality → ℕ
 quality_code SequenceControlled = 0
 quality_code Expedited = 1

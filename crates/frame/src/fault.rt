@@ -4,38 +4,30 @@ ghost use Rattle.frame.specs.Fault.{frame_fault};
 use refusal::{Fault, Layer};
 use std::fmt;
 
-/// Why octets are no frame, or why a frame cannot be written.
+/// Why octets are no frame, or why a frame cannot be written: each refusal by its number.
 #[derive(Clone, Copy, PartialEq, Eq, Debug)]
 pub enum FrameFault {
     /// Fewer than 5 or more than 2,048 octets.
-    Size,
+    Size = 1,
     /// The version is not binary 10.
-    Version,
+    Version = 2,
     /// The length field does not tell how many octets there are.
-    Length,
+    Length = 3,
     /// The data field has no octet.
-    NoData,
+    NoData = 4,
     /// A reserved construction, or a supervisory frame that is not expedited or not of packets.
-    Construction,
+    Construction = 5,
     /// A value is wider than its field.
-    TooWide,
+    TooWide = 15,
     /// The buffer is too small.
-    Buffer,
+    Buffer = 18,
 }
 
 impl Fault for FrameFault {
     ghost told = { frame_fault };
 
     fn number(&self) -> u8 {
-        match self {
-            FrameFault::Size => 1,
-            FrameFault::Version => 2,
-            FrameFault::Length => 3,
-            FrameFault::NoData => 4,
-            FrameFault::Construction => 5,
-            FrameFault::TooWide => 15,
-            FrameFault::Buffer => 18,
-        }
+        *self as u8
     }
 
     fn layer(&self) -> Layer {

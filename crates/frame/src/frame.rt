@@ -3,14 +3,15 @@ ghost use Rattle.std.specs.Prelude.{◌≡◌, take, IfOk, Ok};
 ghost use Rattle.bits.specs.Codec.{write_answer, written};
 ghost use Rattle.bits.specs.Layout.{cut};
 ghost use Rattle.frame.specs.Header.{header_layout};
+ghost use Rattle.frame.specs.declared.fault.FrameFault.TheVariants as fault;
 ghost use Rattle.frame.specs.Frame.{encoded, frame_value, read_fields, read_frame, seen};
 
 use super::fault::FrameFault;
 use super::header::{Header, header_of, header_word, is_allowed};
-use bits::{field, octets_of, word};
+use bits::{Encode, field, octets_of, word};
 
 /// A frame: its header, and its data field.
-#[derive(Clone, Copy)]
+#[derive(Clone, Copy, PartialEq, Eq, Debug)]
 pub struct Frame<'a> {
     pub header: Header,
     pub payload: &'a [u8],
@@ -29,10 +30,8 @@ fn frame_of<'a>(word: u128, size: usize, payload: &'a [u8]) -> Result<Frame<'a>,
     if size <= 5 {
         return Err(FrameFault::NoData);
     }
-    match header_of(word) {
-        Some(header) => Ok(Frame { header, payload }),
-        None => Err(FrameFault::Construction),
-    }
+    let header = header_of(word).ok_or(FrameFault::Construction)?;
+    Ok(Frame { header, payload })
 }
 
 /// The frame that these octets are, its data field a part of them.
@@ -43,10 +42,8 @@ pub fn read_frame(octets: &[u8]) -> Result<Frame<'_>, FrameFault>
     if octets.len() > 2048 {
         return Err(FrameFault::Size);
     }
-    let [a, b, c, d, e, payload @ ..] = octets else {
-        return Err(FrameFault::Size);
-    };
-    frame_of(word(&[*a, *b, *c, *d, *e]), octets.len(), payload)
+    let (header, payload) = octets.split_at_checked(5).ok_or(FrameFault::Size)?;
+    frame_of(word(header), octets.len(), payload)
 }
 
 /// Puts the octets of a frame first into the buffer, and answers how many they are. The rest of the buffer stays.
@@ -57,9 +54,7 @@ pub fn write_frame(frame: Frame<'_>, buffer: &mut [u8]) -> Result<usize, FrameFa
 {
     let Frame { header, payload } = frame;
     let length = payload.len();
-    let Some(word) = header_word(header, (length + 4) as u128) else {
-        return Err(FrameFault::TooWide);
-    };
+    let word = header_word(header, (length + 4) as u128).ok_or(FrameFault::TooWide)?;
     if length == 0 {
         return Err(FrameFault::NoData);
     }
@@ -70,11 +65,20 @@ pub fn write_frame(frame: Frame<'_>, buffer: &mut [u8]) -> Result<usize, FrameFa
         return Err(FrameFault::Buffer);
     }
     let [.., a, b, c, d, e] = octets_of(word);
-    buffer[0] = a;
-    buffer[1] = b;
-    buffer[2] = c;
-    buffer[3] = d;
-    buffer[4] = e;
+    buffer[..5].copy_from_slice(&[a, b, c, d, e]);
     buffer[5..length + 5].copy_from_slice(payload);
     Ok(length + 5)
+}
+
+impl Encode for Frame<'_> {
+    type Fault = FrameFault;
+
+    ghost encoded = { λ frame. encoded (frame_value frame) };
+
+    ghost no_room = { fault.Buffer };
+
+    // A call of its own does the work, since it promises more: that reading undoes it.
+    fn write(self, buffer: &mut [u8]) -> Result<usize, FrameFault> {
+        write_frame(self, buffer)
+    }
 }

@@ -1,9 +1,12 @@
 //! The header of a frame: its first five octets.
-ghost use Rattle.std.specs.Prelude.{◌≡◌, ◌∷◌, if◌then◌else◌, Some, None};
+ghost use Rattle.std.specs.Prelude.{◌≡◌, ◌∷◌, if◌then◌else◌, Some, None, ok_or};
 ghost use Rattle.bits.specs.Layout.{cut, fits, join};
-ghost use Rattle.frame.specs.Header.{allowed, construction_code, construction_of, header_fields, header_layout, header_of, id_code, id_of_bit, kind_code, kind_of, quality_code, quality_of};
+ghost use Rattle.frame.specs.declared.fault.FrameFault.TheVariants as fault;
+ghost use Rattle.frame.specs.Header.{allowed, bit, construction_of, header_fields, header_layout, header_of, id_of_bit, kind_of, quality_of};
 
-use bits::{assemble, field};
+use super::fault::FrameFault;
+use bits::{assemble, field, is_set};
+use std::fmt;
 
 /// How a frame is delivered.
 #[derive(Clone, Copy, PartialEq, Eq, Debug)]
@@ -23,12 +26,12 @@ pub enum Kind {
     Supervisory,
 }
 
-/// How the data field is made up.
+/// How the data field is made up. Binary 10 is reserved, so it has no case.
 #[derive(Clone, Copy, PartialEq, Eq, Debug)]
 pub enum Construction {
-    Packets,
-    Segments,
-    UserOctets,
+    Packets = 0,
+    Segments = 1,
+    UserOctets = 3,
 }
 
 /// Whose spacecraft id the header holds.
@@ -39,7 +42,7 @@ pub enum IdOf {
 }
 
 /// The fields of a header, but for the version and the length, which follow from the rest of the frame.
-#[derive(Clone, Copy)]
+#[derive(Clone, Copy, PartialEq, Eq, Debug)]
 pub struct Header {
     pub quality: Quality,
     pub kind: Kind,
@@ -55,55 +58,83 @@ pub struct Header {
     pub number: u8,
 }
 
-fn quality_of(bit: u128) -> Quality
-    ensures { result ≡ quality_of bit }
-{
-    if bit == 0 {
-        Quality::SequenceControlled
-    } else {
-        Quality::Expedited
+impl From<bool> for Quality {
+    ghost from_gives = { λ set quality. quality ≡ quality_of (bit set) };
+
+    fn from(set: bool) -> Quality {
+        if set {
+            Quality::Expedited
+        } else {
+            Quality::SequenceControlled
+        }
     }
 }
 
-fn kind_of(bit: u128) -> Kind
-    ensures { result ≡ kind_of bit }
-{
-    if bit == 0 {
-        Kind::User
-    } else {
-        Kind::Supervisory
+impl From<bool> for Kind {
+    ghost from_gives = { λ set kind. kind ≡ kind_of (bit set) };
+
+    fn from(set: bool) -> Kind {
+        if set { Kind::Supervisory } else { Kind::User }
     }
 }
 
-fn construction_of(bits: u128) -> Option<Construction>
-    ensures { result ≡ construction_of bits }
-{
-    match bits {
-        0 => Some(Construction::Packets),
-        1 => Some(Construction::Segments),
-        3 => Some(Construction::UserOctets),
-        _ => None,
+impl From<bool> for IdOf {
+    ghost from_gives = { λ set id_of. id_of ≡ id_of_bit (bit set) };
+
+    fn from(set: bool) -> IdOf {
+        if set { IdOf::Destination } else { IdOf::Source }
     }
 }
 
-fn id_of(bit: u128) -> IdOf
-    ensures { result ≡ id_of_bit bit }
-{
-    if bit == 0 {
-        IdOf::Source
-    } else {
-        IdOf::Destination
+impl TryFrom<u128> for Construction {
+    type Error = FrameFault;
+
+    ghost try_from_gives = { λ bits answer. answer ≡ ok_or (construction_of bits) fault.Construction };
+
+    fn try_from(bits: u128) -> Result<Construction, FrameFault> {
+        match bits {
+            0 => Ok(Construction::Packets),
+            1 => Ok(Construction::Segments),
+            3 => Ok(Construction::UserOctets),
+            _ => Err(FrameFault::Construction),
+        }
     }
 }
 
-// The discriminants count from 0, and binary 10 is reserved.
-fn construction_code(construction: Construction) -> u128
-    ensures { result ≡ construction_code construction }
-{
-    match construction {
-        Construction::Packets => 0,
-        Construction::Segments => 1,
-        Construction::UserOctets => 3,
+impl fmt::Display for Quality {
+    fn fmt<W: fmt::Write>(&self, f: &mut fmt::Formatter<W>) -> fmt::Result {
+        f.write_str(match self {
+            Quality::SequenceControlled => "sequence-controlled",
+            Quality::Expedited => "expedited",
+        })
+    }
+}
+
+impl fmt::Display for Kind {
+    fn fmt<W: fmt::Write>(&self, f: &mut fmt::Formatter<W>) -> fmt::Result {
+        f.write_str(match self {
+            Kind::User => "user",
+            Kind::Supervisory => "supervisory",
+        })
+    }
+}
+
+impl fmt::Display for Construction {
+    fn fmt<W: fmt::Write>(&self, f: &mut fmt::Formatter<W>) -> fmt::Result {
+        f.write_str(match self {
+            Construction::Packets => "packets",
+            Construction::Segments => "segments",
+            Construction::UserOctets => "user octets",
+        })
+    }
+}
+
+impl fmt::Display for IdOf {
+    fn fmt<W: fmt::Write>(&self, f: &mut fmt::Formatter<W>) -> fmt::Result {
+        f.write_str(match self {
+            IdOf::Source => "source",
+            IdOf::Destination => "destination",
+        })
     }
 }
 
@@ -119,12 +150,13 @@ pub fn is_allowed(kind: Kind, quality: Quality, construction: Construction) -> b
 }
 
 /// The header of which `word` is the five octets, if its construction is one and its kind allows it.
+// No TryFrom: whether a word is a header hangs on its version and length too, which the reader of a frame tests.
 pub fn header_of(word: u128) -> Option<Header>
     ensures { result ≡ header_of (cut header_layout word) }
 {
-    let quality = quality_of(field(word, 37, 1));
-    let kind = kind_of(field(word, 36, 1));
-    let construction = construction_of(field(word, 34, 2))?;
+    let quality = Quality::from(is_set(word, 37));
+    let kind = Kind::from(is_set(word, 36));
+    let construction = Construction::try_from(field(word, 34, 2)).ok()?;
     if !is_allowed(kind, quality, construction) {
         return None;
     }
@@ -135,7 +167,7 @@ pub fn header_of(word: u128) -> Option<Header>
         id: field(word, 24, 10) as u16,
         channel: field(word, 23, 1) as u8,
         port: field(word, 20, 3) as u8,
-        id_of: id_of(field(word, 19, 1)),
+        id_of: IdOf::from(is_set(word, 19)),
         number: field(word, 0, 8) as u8,
     })
 }
@@ -149,7 +181,7 @@ pub fn header_word(header: Header, last: u128) -> Option<u128>
         (2, 2),
         (1, header.quality as u128),
         (1, header.kind as u128),
-        (2, construction_code(header.construction)),
+        (2, header.construction as u128),
         (10, header.id as u128),
         (1, header.channel as u128),
         (3, header.port as u128),

@@ -1,24 +1,25 @@
 //! What is said of a line of octets.
-use super::names::{construction_name, id_of_name, kind_name, octets_name, quality_name};
+use super::names::octets_name;
 use super::refusals::print_refusal;
 use super::units::print_unit;
 use frame::frame::{Frame, read_frame};
-use frame::header::Kind;
+use frame::header::{Header, Kind};
 use inspection::rewriting::frame_is;
 use inspection::summary::Summary;
 use refusal::Fault;
 use std::io;
 
 fn print_header(rt: &HostRuntime, line: u64, frame: Frame<'_>) -> io::Result<()> {
-    let header = frame.header;
-    let kind = kind_name(header.kind);
-    let quality = quality_name(header.quality);
-    let construction = construction_name(header.construction);
-    let id = header.id;
-    let id_of = id_of_name(header.id_of);
-    let channel = header.channel;
-    let port = header.port;
-    let number = header.number;
+    let Header {
+        quality,
+        kind,
+        construction,
+        id,
+        channel,
+        port,
+        id_of,
+        number,
+    } = frame.header;
     let count = frame.payload.len();
     let octets = octets_name(count);
     print!(rt; "{line}: {kind} frame, {quality}, {construction}, id {id} of the {id_of}, ")?;
@@ -51,7 +52,7 @@ pub(crate) fn print_frame(
     summary.count_frame(frame.header.kind, frame.header.quality);
     print_header(rt, line, frame)?;
     print_rewritten(rt, frame, octets)?;
-    if let Kind::Supervisory = frame.header.kind {
+    if frame.header.kind == Kind::Supervisory {
         if let Err(fault) = print_unit(rt, frame.payload)? {
             summary.count_refusal(fault.number());
         }

@@ -1,5 +1,4 @@
 //! The text of a refusal.
-use super::names::layer_name;
 use refusal::Fault;
 use std::fmt::Display;
 use std::io;
@@ -7,7 +6,7 @@ use std::io;
 /// Prints a refusal, to the end of its line.
 pub(crate) fn print_refusal<F: Fault + Display>(rt: &HostRuntime, fault: &F) -> io::Result<()> {
     let number = fault.number();
-    let layer = layer_name(fault.layer());
+    let layer = fault.layer();
     let octet = fault.octet();
     println!(rt; "refused by {number}, {layer} layer, octet {octet}: {fault}")
 }

@@ -7,6 +7,8 @@
 ghost use Rattle.std.specs.Prelude.{◌≡◌};
 ghost use Rattle.refusal.specs.Place.{Place};
 
+use std::fmt;
+
 /// The layer that refused.
 #[derive(Clone, Copy, PartialEq, Eq, Debug)]
 pub enum Layer {
@@ -17,7 +19,20 @@ pub enum Layer {
     Link,
 }
 
+impl fmt::Display for Layer {
+    fn fmt<W: fmt::Write>(&self, f: &mut fmt::Formatter<W>) -> fmt::Result {
+        f.write_str(match self {
+            Layer::Line => "line",
+            Layer::Frame => "frame",
+            Layer::Spdu => "SPDU",
+            Layer::End => "end",
+            Layer::Link => "link",
+        })
+    }
+}
+
 /// A refusal by one of the layers.
+// Three calls and no record of the three: most impls answer the number and the layer in one word each.
 pub trait Fault {
     ghost told: { Self → Place };
 
