@@ -5,7 +5,7 @@
 #![tactic(auto)]
 
 ghost use Rattle.std.specs.Prelude.{◌≡◌, ◌-◌, ◌<◌, min};
-ghost use Rattle.ring.specs.Ring.{grown, index_of, making, without};
+ghost use Rattle.ring.specs.Ring.{Sound, grown, index_of, making, without};
 
 use std::marker::Model;
 
@@ -63,7 +63,8 @@ impl Ring {
 
     /// How many places there are.
     pub fn size(self) -> usize
-        ensures { result ≡ self.size }
+        ensures size { result ≡ self.size }
+        ensures sound { Sound self }
     {
         self.size
     }
