@@ -1,68 +1,68 @@
 //! The calls of a queue.
-ghost use Rattle.std.specs.Prelude.{◌≡◌, ◌*◌, ◌<◌, ◌≤◌, min, false, length, take, is_ok, IfOk, sum_by};
-ghost use Rattle.queue.specs.Limits.{largest_table, most_octets};
-ghost use Rattle.queue.specs.Queue.{Added, Copied, Fitted, Freed, Tied, making, ring_made};
-ghost use Rattle.queue.specs.Ring.{Sound, empty_ring, index_of, queued};
+ghost use Rattle.std.specs.Prelude.{◌≡◌, ◌<◌, ◌≤◌, min, false, length, take, is_ok, OnOk, sum_by};
+ghost use Rattle.ring.specs.Ring.{Sound, index_of, queued};
+ghost use Rattle.queue.specs.Counts.{empty_queue};
+ghost use Rattle.queue.specs.Limits.{largest_table};
+ghost use Rattle.queue.specs.Queue.{Added, Fitted, Freed, Tied, copied_at, making, over};
 
 use super::fault::QueueFault;
 use super::queue::{LARGEST_TABLE, Octets, Queue};
-use super::ring::Ring;
+use ring::Ring;
 
-// The octets of the elements of a part of a table.
-fn octets_in<T: Octets>(part: &[T]) -> usize
-    requires { length part.now ≤ largest_table }
-    ensures sum { result ≡ sum_by T.octets part.now }
-    ensures small { result ≤ most_octets * largest_table }
-{
-    let mut sum: usize = 0;
-    for x in part {
-        sum += x.octet_count() as usize;
-    }
-    sum
-}
-
-// The octets of the first n elements. They lie in one part of the table, or in two where they go past its end.
+// The octets of the first n elements, which are met from the first place on, and round the table's end.
 fn octets_of_first<T: Octets>(ring: Ring, table: &[T], n: usize) -> usize
-    requires { (Sound ring) × ((length table.now ≡ ring.size) × (n ≤ ring.count)) }
+    requires whole { length table.now ≡ ring.size }
+    requires small { ring.size ≤ largest_table }
+    requires few { n ≤ ring.count }
     ensures { result ≡ sum_by T.octets (take n (queued ring table.now)) }
 {
-    let first = ring.first;
-    let size = ring.size;
-    let end = first + n;
-    if end <= size {
-        octets_in(&table[first..end])
+    table[ring.first()..]
+        .iter()
+        .chain(table)
+        .take(n)
+        .map(|x| x.octet_count() as usize)
+        .sum()
+}
+
+// Refuses a table that has not the size that the ring was made for.
+fn check_table<T>(ring: Ring, table: &[T]) -> Result<(), QueueFault>
+    ensures answer { result ≡ over ring table.now tt }
+    ensures size { OnOk result (length table.now ≡ ring.size) }
+    ensures sound { Sound ring }
+{
+    if table.len() == ring.size() {
+        Ok(())
     } else {
-        octets_in(&table[first..size]) + octets_in(&table[0..end - size])
+        Err(QueueFault::Table)
     }
 }
 
 impl Queue {
     /// An empty queue for a table of `size` elements, 1 to `LARGEST_TABLE`.
     pub fn new(size: usize) -> Result<Queue, QueueFault>
-        ensures answer { ring_made result ≡ making size }
-        ensures nothing { IfOk result (λ q. q.total ≡ 0) }
+        ensures { result ≡ making size }
     {
-        if size == 0 || size > LARGEST_TABLE {
+        if size > LARGEST_TABLE {
             return Err(QueueFault::Table);
         }
-        Ok(Queue {
-            ring: Ring::empty(size),
-            total: 0,
-        })
+        let ring = Ring::new(size).ok_or(QueueFault::Table)?;
+        Ok(Queue { ring, total: 0 })
     }
 
     /// How many elements are queued.
     pub fn count(&self) -> usize
         ensures { result ≡ self.now.ring.count }
     {
-        self.ring.count
+        self.ring.count()
     }
 
     /// How many elements the table has that the queue was made for.
     pub fn size(&self) -> usize
-        ensures { result ≡ self.now.ring.size }
+        ensures size { result ≡ self.now.ring.size }
+        ensures sound { Sound self.now.ring }
+        ensures small { result ≤ largest_table }
     {
-        self.ring.size
+        self.ring.size()
     }
 
     /// How many octets the queued elements stand for together.
@@ -76,7 +76,7 @@ impl Queue {
     pub fn fits<T: Octets>(&self, table: &[T]) -> bool
         ensures { Fitted T.octets self.now table.now result }
     {
-        table.len() == self.ring.size
+        table.len() == self.ring.size()
     }
 
     /// The index in the table of a place of the queue, and of the place after the last, where the next element goes.
@@ -85,7 +85,7 @@ impl Queue {
         ensures at { result ≡ index_of self.now.ring (min place self.now.ring.size) }
         ensures within { result < self.now.ring.size }
     {
-        self.ring.index(place.min(self.ring.size))
+        self.ring.index(place)
     }
 
     /// Adds x behind the others, and answers how many there are then.
@@ -94,20 +94,17 @@ impl Queue {
         ensures tied { Tied T.octets self.old table.old → Tied T.octets self.new table.new }
         ensures kept { is_ok result ≡ false → self.new ≡ self.old }
     {
-        if table.len() != self.ring.size {
-            return Err(QueueFault::Table);
-        }
-        if self.ring.count >= self.ring.size {
+        check_table(self.ring, table)?;
+        if self.ring.count() >= self.ring.size() {
             return Err(QueueFault::Full);
         }
-        let end = self.ring.index(self.ring.count);
-        table[end] = x;
+        table[self.ring.index(self.ring.count())] = x;
         let total = self.total.saturating_add(x.octet_count() as usize);
         *self = Queue {
-            ring: self.ring.longer(),
+            ring: self.ring.longer(1),
             total,
         };
-        Ok(self.ring.count)
+        Ok(self.ring.count())
     }
 
     /// Lets the first n elements go, or all where there are fewer, and answers how many went. It reads the elements
@@ -117,10 +114,8 @@ impl Queue {
         ensures tied { Tied T.octets self.old table.now → Tied T.octets self.new table.now }
         ensures kept { is_ok result ≡ false → self.new ≡ self.old }
     {
-        if table.len() != self.ring.size {
-            return Err(QueueFault::Table);
-        }
-        let gone = n.min(self.ring.count);
+        check_table(self.ring, table)?;
+        let gone = n.min(self.ring.count());
         let total = self
             .total
             .saturating_sub(octets_of_first(self.ring, table, gone));
@@ -133,31 +128,22 @@ impl Queue {
 
     /// Lets all elements go.
     pub fn clear(&mut self)
-        ensures numbers { self.new.ring ≡ empty_ring self.old.ring.size }
-        ensures nothing { self.new.total ≡ 0 }
+        ensures { self.new ≡ empty_queue self.old.ring.size }
     {
         *self = Queue {
-            ring: Ring::empty(self.ring.size),
+            ring: self.ring.cleared(),
             total: 0,
         };
     }
 
-    /// Copies the element at a place, counted from 0 at the oldest, out to `out`, and answers whether there is one.
-    pub fn copy_out<T: Copy>(
-        &self,
-        table: &[T],
-        place: usize,
-        out: &mut T,
-    ) -> Result<bool, QueueFault>
-        ensures { Copied self.now.ring table.now place out.old result out.new }
+    /// A copy of the element at a place, counted from 0 at the oldest, or none where there is none.
+    pub fn copy_out<T: Copy>(&self, table: &[T], place: usize) -> Result<Option<T>, QueueFault>
+        ensures { result ≡ copied_at self.now.ring table.now place }
     {
-        if table.len() != self.ring.size {
-            return Err(QueueFault::Table);
+        check_table(self.ring, table)?;
+        if place >= self.ring.count() {
+            return Ok(None);
         }
-        if place >= self.ring.count {
-            return Ok(false);
-        }
-        *out = table[self.ring.index(place)];
-        Ok(true)
+        Ok(Some(table[self.ring.index(place)]))
     }
 }

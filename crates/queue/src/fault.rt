@@ -8,19 +8,16 @@ use std::fmt;
 #[derive(Clone, Copy, PartialEq, Eq, Debug)]
 pub enum QueueFault {
     /// No place of the table is free.
-    Full,
+    Full = 16,
     /// A table of no size that a queue can have, or of another size than the queue was made for.
-    Table,
+    Table = 18,
 }
 
 impl Fault for QueueFault {
     ghost told = { queue_fault };
 
     fn number(&self) -> u8 {
-        match self {
-            QueueFault::Full => 16,
-            QueueFault::Table => 18,
-        }
+        *self as u8
     }
 
     fn layer(&self) -> Layer {

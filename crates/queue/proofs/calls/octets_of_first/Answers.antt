@@ -1,27 +1,24 @@
-use Rattle.std.proofs.Common.{◌≡◌, ◌+◌, ◌-◌, take, drop, sum_by, sym, ap, ◌∙◌, arith}
+use Rattle.std.proofs.Common.{◌++◌, take, drop, sum_by, ap, ◌∙◌, arith, rules, length-take}
+use borrow.Author.Tests.{tests}
+use Rattle.std.proofs.lemmas.Iterator.{YieldsList-from_slice, YieldsList-from_take, YieldsList-from_map}
+use Rattle.std.proofs.lemmas.Iterator.Adapters.{at_most_from_yields_List, fits_from_length}
+use Rattle.std.proofs.lemmas.Iterator.Consumers.{YieldsList-at, YieldsList-from_chain, sum_by_from_yields_List}
 use Rattle.std.proofs.lemmas.Slice.{between_to_end}
-use Rattle.std.proofs.lemmas.List.Sums.{sum_by-append}
-use Rattle.queue.proofs.Sums.{one_part, two_parts}
+use Rattle.queue.proofs.Sums.{first_queued}
 use Rattle.queue.proofs.calls.octets_of_first.Goals as goal
 
-pub returns-then-end-size : goal.returns-then-end-size
-returns-then-end-size g c =
-    let f = g.T.Octets.octets in
-    let t = c.args.table.now in
-    let a = c.args.ring.first in
-    let n = c.args.n in
-    let long : a + n - a ≡ n = omega arith in
-    c.octets_in.ensures.sum ∙ ap (λ k. sum_by f (take k (drop a t))) long
-    ∙ ap (sum_by f) (sym (one_part c.args.ring t n c.requires.0 c.requires.1.0 c.requires.1.1 (omega arith)))
+pub sum-requires-clause-fits : goal.sum-requires-clause-fits
+sum-requires-clause-fits g c =
+    let chain = YieldsList-from_chain (YieldsList-at c.chain.ensures.first (YieldsList-from_slice _ c.iter.ensures.rest)) (YieldsList-from_slice _ c.chain.ensures.second.0) c.chain.ensures.first_done c.chain.ensures.second_done in
+    let first = YieldsList-at c.map.ensures.source (YieldsList-from_take _ (YieldsList-at c.take.ensures.source chain) c.take.ensures.count) in
+    fits_from_length _ _ 256 _ (at_most_from_yields_List first (simp length-take (omega arith))) c.map.ensures.closure (omega arith) (λ x r q k. search (rules, tests))
 
-pub returns-else-end-size : goal.returns-else-end-size
-returns-else-end-size g c =
-    let f = g.T.Octets.octets in
+pub returns : goal.returns
+returns g c =
     let t = c.args.table.now in
-    let a = c.args.ring.first in
-    let rest = a + c.args.n - c.args.ring.size in
-    let long : rest - 0 ≡ rest = omega arith in
-    let one = c.octets_in-else-end-size.ensures.sum ∙ ap (sum_by f) (between_to_end t a c.args.ring.size (omega arith)) in
-    let two = c.octets_in-else-end-size-2.ensures.sum ∙ ap (λ k. sum_by f (take k t)) long in
-    let both = ap (sum_by f) (two_parts c.args.ring t c.args.n c.requires.0 c.requires.1.0 c.requires.1.1 (omega arith)) ∙ sum_by-append f (drop a t) (take rest t) in
-    omega (arith, one, two, both)
+    let f = g.T.Octets.octets in
+    let chain = YieldsList-from_chain (YieldsList-at c.chain.ensures.first (YieldsList-from_slice _ (c.iter.ensures.rest ∙ between_to_end t _ _ (omega arith)))) (YieldsList-from_slice t c.chain.ensures.second.0) c.chain.ensures.first_done c.chain.ensures.second_done in
+    let first = YieldsList-at c.map.ensures.source (YieldsList-from_take _ (YieldsList-at c.take.ensures.source chain) c.take.ensures.count) in
+    sum_by_from_yields_List f _ _ _ c.sum.ensures.ran (YieldsList-from_map _ f first c.map.ensures.closure (λ x r q k. search rules))
+    ∙ ap (λ i. sum_by f (take c.args.n (drop i t ++ t))) c.first.ensures
+    ∙ ap (sum_by f) (first_queued c.args.ring t c.args.n (omega arith) c.requires.few)
