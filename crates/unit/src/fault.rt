@@ -1,6 +1,8 @@
 //! What queueing a unit refuses.
-ghost use Rattle.unit.specs.Fault.{unit_fault};
+ghost use Rattle.std.specs.Prelude.{◌≡◌};
+ghost use Rattle.unit.specs.Fault.{of_queue, unit_fault};
 
+use queue::fault::QueueFault;
 use refusal::{Fault, Layer};
 use std::fmt;
 
@@ -8,22 +10,29 @@ use std::fmt;
 #[derive(Clone, Copy, PartialEq, Eq, Debug)]
 pub enum UnitFault {
     /// No octet or more than 2,043, or a port over 7.
-    Unit,
+    Unit = 15,
     /// Every place of the table is taken.
-    Full,
+    Full = 16,
     /// A table, a store or a buffer of the wrong size.
-    Memory,
+    Memory = 18,
+}
+
+impl From<QueueFault> for UnitFault {
+    ghost from_gives = { λ q u. u ≡ of_queue q };
+
+    fn from(fault: QueueFault) -> UnitFault {
+        match fault {
+            QueueFault::Full => UnitFault::Full,
+            QueueFault::Table => UnitFault::Memory,
+        }
+    }
 }
 
 impl Fault for UnitFault {
     ghost told = { unit_fault };
 
     fn number(&self) -> u8 {
-        match self {
-            UnitFault::Unit => 15,
-            UnitFault::Full => 16,
-            UnitFault::Memory => 18,
-        }
+        *self as u8
     }
 
     fn layer(&self) -> Layer {
