@@ -1,5 +1,7 @@
 -- The units that a queue of slips and a store stand for.
-use Rattle.std.specs.Prelude.{◌≡◌, ℕ, ◌+◌, ◌*◌, min, Bool, cond, ◌&&◌, List, [], ◌∷◌, ◌++◌, length, take, drop, is_ok, Some, None, Ok, Err, Option, Result, ◌==◌, nat_le, nat_lt, slice_set}
+use Rattle.std.specs.Prelude.{◌≡◌, ℕ, ◌+◌, ◌*◌, min, Bool, cond, ◌&&◌, List, [], ◌∷◌, ◌++◌, map, length, take, drop, is_ok, Some, None, Ok, Err, Option, Result, ◌==◌, nat_le, nat_lt, slice_get, slice_set}
+use Rattle.std.specs.List.{enumerate_from}
+use Rattle.std.specs.Option.{option_map}
 use Rattle.bits.specs.Codec.{beginning}
 use Rattle.frame.specs.declared.header.Quality.{Quality}
 use Rattle.line.specs.Memory.{laid}
@@ -23,22 +25,21 @@ note_of u = record { port = u.port; quality = u.quality; length = length u.octet
 abbrev pub slip_octets : Note → ℕ
 slip_octets s = s.length
 
--- the 2,048 octets of the store that belong to a table index
+-- what of the store a unit at a table index may fill: 2,043 octets, from 2,048 times the index on
 abbrev pub slot : List ℕ → ℕ → List ℕ
-slot store i = take 2048 (drop (2048 * i) store)
+slot store i = take 2043 (drop (2048 * i) store)
 
 -- the unit of the slip at a table index: its octets stand first in the index's slot
 abbrev pub unit_at : List ℕ → ℕ → Note → UnitValue
 unit_at store i s = record { port = s.port; quality = s.quality; octets = take s.length (slot store i) }
 
--- the units of all slips of a table, the first of which stands at this index
-abbrev pub held_from : List ℕ → ℕ → List Note → List UnitValue
-held_from store i [] = []
-held_from store i (s ∷ ss) = unit_at store i s ∷ held_from store (i + 1) ss
+-- the units of all slips of a table
+abbrev pub all_units : List Note → List ℕ → List UnitValue
+all_units slips store = map (λ p. unit_at store p.0 p.1) (enumerate_from 0 slips)
 
 -- the units that are queued, oldest first
 abbrev pub units_in : Numbers → List Note → List ℕ → List UnitValue
-units_in g slips store = queued g (held_from store 0 slips)
+units_in g slips store = queued g (all_units slips store)
 
 -- the memory of a queue of units: a table of the queue's size, and a store of 2,048 octets for each of its slips
 abbrev pub memory_fits : Numbers → List Note → List ℕ → Bool
@@ -66,15 +67,10 @@ pub record Holds (g g' : Numbers) (slips slips' : List Note) (store store' : Lis
   pub octets : store' ≡ cond (is_ok r) (laid store (2048 * index_of g g.count) u.octets) store
   pub units : units_in g' slips' store' ≡ cond (is_ok r) (units_in g slips store ++ u ∷ []) (units_in g slips store)
 
--- the note of the first of some units, if there is one
-abbrev pub first_note : List UnitValue → Option Note
-first_note [] = None
-first_note (u ∷ us) = Some (note_of u)
-
--- a buffer with the octets of the first of some units at its beginning, if there is one
-abbrev pub first_shown : List UnitValue → List ℕ → List ℕ
-first_shown [] buffer = buffer
-first_shown (u ∷ us) buffer = beginning u.octets buffer
+-- a buffer with the octets of a unit at its beginning, if there is one
+abbrev pub unit_shown : Option UnitValue → List ℕ → List ℕ
+unit_shown None buffer = buffer
+unit_shown (Some u) buffer = beginning u.octets buffer
 
 -- a buffer with room for any unit
 abbrev pub roomy : List ℕ → Bool
@@ -83,8 +79,8 @@ roomy buffer = nat_le 2043 (length buffer)
 -- copying the unit at a place out: its note is answered and its octets come first in the buffer; where there is none,
 -- none is answered; the rest of the buffer, and without a unit or with a refusal all of it, is as it was
 pub record CopiesOut (g : Numbers) (slips : List Note) (store : List ℕ) (place : ℕ) (buffer buffer' : List ℕ) (r : Result (Option Note) UnitFault) : Type 0 where
-  pub answer : r ≡ cond (memory_fits g slips store && roomy buffer) (Ok (first_note (drop place (units_in g slips store)))) (Err Memory)
-  pub after : buffer' ≡ cond (is_ok r) (first_shown (drop place (units_in g slips store)) buffer) buffer
+  pub answer : r ≡ cond (memory_fits g slips store && roomy buffer) (Ok (option_map note_of (slice_get (units_in g slips store) place))) (Err Memory)
+  pub after : buffer' ≡ cond (is_ok r) (unit_shown (slice_get (units_in g slips store) place) buffer) buffer
 
 -- letting the first n units go, or all where there are fewer: answers how many went
 pub record LetsGo (g g' : Numbers) (slips : List Note) (store : List ℕ) (n : ℕ) (r : Result ℕ UnitFault) : Type 0 where
