@@ -1,6 +1,8 @@
 //! Queues of directives.
 //!
-//! A queue of directives is the numbers of a queue and a table of directives that the caller lends to each call.
+//! A queue of directives is the numbers of a queue and a table of directives. The caller lends the table to each call,
+//! which tries first whether it fits, so the two stay two values. The calls hand on to those of any queue; they have
+//! the shape of the calls for units.
 ghost use Rattle.std.specs.Prelude.{◌≡◌, false, is_ok};
 ghost use Rattle.queue.specs.Queue.{Added, Fitted, Freed, Tied};
 ghost use Rattle.held_directive.specs.Directives.{CopiesDirective, directive_octets};

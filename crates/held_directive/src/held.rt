@@ -1,6 +1,9 @@
 //! A directive in a queue.
-ghost use Rattle.std.specs.Prelude.{◌≡◌, length};
+ghost use Rattle.std.specs.Prelude.{◌≡◌, [], ◌∷◌, length};
+ghost use Rattle.bits.specs.Codec.{put, put_answer};
+ghost use Rattle.held_directive.specs.Held.{packing};
 
+use bits::put_first;
 use queue::queue::Octets;
 use std::marker::Model;
 
@@ -11,8 +14,8 @@ pub const LONGEST_DIRECTIVE: usize = 16;
 /// table of them needs no store beside it, and what is behind them is zero.
 #[derive(Clone, Copy, PartialEq, Eq, Debug)]
 pub struct HeldDirective {
-    pub(crate) octets: [u8; LONGEST_DIRECTIVE],
-    pub(crate) count: u8,
+    octets: [u8; LONGEST_DIRECTIVE],
+    count: u8,
 }
 
 impl Model for HeldDirective {
@@ -29,6 +32,42 @@ impl Model for HeldDirective {
     ghost inverse = { λ o. record { octets = padded o; count = length o } };
 
     ghost inverse_ok = { λ h p. ap₂ (λ o n. record { octets = o; count = n }) (sym p.zeros) p.count };
+}
+
+impl HeldDirective {
+    /// The directive with which a table is made: an SPDU of Type 5 without a directive. A queue never shows it.
+    pub fn blank() -> HeldDirective
+        ensures { result ≡ 64 ∷ [] }
+    {
+        let mut octets = [0; LONGEST_DIRECTIVE];
+        octets[0] = 0x40;
+        HeldDirective { octets, count: 1 }
+    }
+
+    /// Packs octets. None where they are more than 16.
+    pub fn pack(octets: &[u8]) -> Option<HeldDirective>
+        ensures { result ≡ packing octets.now }
+    {
+        let count = octets.len();
+        if count > LONGEST_DIRECTIVE {
+            return None;
+        }
+        let mut all = [0; LONGEST_DIRECTIVE];
+        all[0..count].copy_from_slice(octets);
+        Some(HeldDirective {
+            octets: all,
+            count: count as u8,
+        })
+    }
+
+    /// Copies the octets to the front of a buffer, and answers how many they are. None where they find no room: the
+    /// buffer then stays.
+    pub fn unpack(&self, buffer: &mut [u8]) -> Option<usize>
+        ensures answer { result ≡ put_answer self.now buffer.old }
+        ensures after { buffer.new ≡ put self.now buffer.old }
+    {
+        put_first(&self.octets[0..self.count as usize], buffer)
+    }
 }
 
 impl Octets for HeldDirective {

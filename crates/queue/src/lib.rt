@@ -6,6 +6,5 @@
 //! the elements that leave, however many are queued.
 #![tactic(auto)]
 
-pub mod calls;
 pub mod fault;
 pub mod queue;

@@ -1,5 +1,6 @@
 //! What a queue keeps of a unit beside its octets.
 ghost use Rattle.std.specs.Prelude.{◌≡◌};
+ghost use Rattle.frame.specs.declared.header.Quality.TheVariants.{SequenceControlled};
 
 use frame::header::Quality;
 use queue::queue::Octets;
@@ -24,6 +25,19 @@ impl Model for Slip {
     ghost invariant = { λ s. (s.port ≤ 7) × (s.length ≤ 2043) };
 
     ghost inverse = { λ n. record { port = n.port; quality = n.quality; length = n.length } };
+}
+
+impl Slip {
+    /// The slip of no unit, with which a table is made. A queue never shows it.
+    pub fn blank() -> Slip
+        ensures { result ≡ record { port = 0; quality = SequenceControlled; length = 0 } }
+    {
+        Slip {
+            port: 0,
+            quality: Quality::SequenceControlled,
+            length: 0,
+        }
+    }
 }
 
 impl Octets for Slip {

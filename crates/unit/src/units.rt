@@ -1,9 +1,10 @@
 //! Queues of units.
 //!
 //! A queue of units is the numbers of a queue, a table of slips and a store that is cut into slots of 2,048 octets. A
-//! slip and its slot have the same index, so nothing has to be searched, and no octet moves while a unit waits.
+//! slip and its slot have the same index, so nothing has to be searched, and no octet moves while a unit waits. The
+//! caller lends table and store to each call, which tries first whether they fit, so a queue and its memory stay two
+//! values.
 ghost use Rattle.std.specs.Prelude.{◌≡◌, ◌*◌, false, is_ok};
-ghost use Rattle.frame.specs.declared.header.Quality.TheVariants.{SequenceControlled};
 ghost use Rattle.queue.specs.Queue.{Tied};
 ghost use Rattle.ring.specs.Ring.{Sound};
 ghost use Rattle.unit.specs.Unit.{CopiesOut, Holds, LetsGo, memory_fits, slip_octets};
@@ -26,19 +27,6 @@ pub const SLOT: usize = 2048;
 pub struct Units<'a> {
     pub slips: &'a mut [Slip],
     pub store: &'a mut [u8],
-}
-
-impl Slip {
-    /// The slip of no unit, with which a table is made. A queue never shows it.
-    pub fn blank() -> Slip
-        ensures { result ≡ record { port = 0; quality = SequenceControlled; length = 0 } }
-    {
-        Slip {
-            port: 0,
-            quality: Quality::SequenceControlled,
-            length: 0,
-        }
-    }
 }
 
 /// Whether the memory is that of a queue of units.
@@ -74,9 +62,9 @@ pub fn hold(
         quality,
         length: count as u16,
     };
-    let count = queue.add(units.slips, slip)?;
+    let queued = queue.add(units.slips, slip)?;
     let _ = lay(units.store, SLOT * index, octets);
-    Ok(count)
+    Ok(queued)
 }
 
 /// Copies the unit at a place, counted from 0 at the oldest, out to a buffer of 2,043 octets or more, and answers what

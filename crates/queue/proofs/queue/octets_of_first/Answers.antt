@@ -5,7 +5,7 @@ use Rattle.std.proofs.lemmas.Iterator.Adapters.{at_most_from_yields_List, fits_f
 use Rattle.std.proofs.lemmas.Iterator.Consumers.{YieldsList-at, YieldsList-from_chain, sum_by_from_yields_List}
 use Rattle.std.proofs.lemmas.Slice.{between_to_end}
 use Rattle.queue.proofs.Sums.{first_queued}
-use Rattle.queue.proofs.calls.octets_of_first.Goals as goal
+use Rattle.queue.proofs.queue.octets_of_first.Goals as goal
 
 pub sum-requires-clause-fits : goal.sum-requires-clause-fits
 sum-requires-clause-fits g c =
