@@ -102,10 +102,11 @@ impl Queue {
         ensures kept { is_ok result ≡ false → self.new ≡ self.old }
     {
         check_table(self.ring, table)?;
-        if self.ring.count() >= self.ring.size() {
+        let count = self.ring.count();
+        if count >= self.ring.size() {
             return Err(QueueFault::Full);
         }
-        table[self.ring.index(self.ring.count())] = x;
+        table[self.ring.index(count)] = x;
         let total = self.total.saturating_add(x.octet_count() as usize);
         *self = Queue {
             ring: self.ring.longer(1),

@@ -8,7 +8,7 @@ returns g c =
     let t = c.args.table.now in
     let sound = c.check_table.ensures.sound in
     let fit = c.in_ok-check_table.ensures.size in
-    let done = added ring t sound fit c.args.x c.count-3.result c.longer.result (set t c.index.result c.args.x) (omega arith) (search rules) (search rules) (search rules) in
+    let done = added ring t sound fit c.args.x c.count.result c.longer.result (set t c.index.result c.args.x) (omega arith) (search rules) (search rules) (search rules) in
     rw (← c.self.view_is)
     (record {
       added = done;
