@@ -1,5 +1,5 @@
 -- What copying a directive out of a queue answers and leaves.
-use Rattle.std.specs.Prelude.{◌≡◌, ℕ, cond, List, length, is_ok, Some, None, Ok, Err, Option, Result, nat_le, slice_get}
+use Rattle.std.specs.Prelude.{◌≡◌, ℕ, ◌≤◌, true, cond, IfSome, List, length, is_ok, Some, None, Ok, Err, Option, Result, nat_le, slice_get}
 use Rattle.bits.specs.Codec.{beginning}
 use Rattle.ring.specs.Ring.{Numbers, queued}
 use Rattle.queue.specs.Queue.{fitting}
@@ -22,7 +22,8 @@ directive_shown (Some o) buffer = beginning o buffer
 
 -- copying the directive at a place out: its octets come first in the buffer, which has room for them, and how many they
 -- are is answered; where there is no directive, none is answered, whatever the buffer; the rest of the buffer, and
--- without a directive or with a refusal all of it, is as it was
+-- without a directive or with a refusal all of it, is as it was. A buffer of sixteen octets has room for every directive
 pub record CopiesDirective (g : Numbers) (entries : List (List ℕ)) (place : ℕ) (buffer buffer' : List ℕ) (r : Result (Option ℕ) QueueFault) : Type 0 where
   pub answer : r ≡ cond (fitting g entries) (directive_answer (slice_get (queued g entries) place) buffer) (Err Table)
   pub after : buffer' ≡ cond (is_ok r) (directive_shown (slice_get (queued g entries) place) buffer) buffer
+  pub few : fitting g entries ≡ true → IfSome (slice_get (queued g entries) place) (λ o. length o ≤ 16)

@@ -1,5 +1,5 @@
 //! A directive in a queue.
-ghost use Rattle.std.specs.Prelude.{◌≡◌, [], ◌∷◌, length};
+ghost use Rattle.std.specs.Prelude.{◌≡◌, ◌≤◌, [], ◌∷◌, length};
 ghost use Rattle.bits.specs.Codec.{put, put_answer};
 ghost use Rattle.held_directive.specs.Held.{packing};
 
@@ -65,6 +65,7 @@ impl HeldDirective {
     pub fn unpack(&self, buffer: &mut [u8]) -> Option<usize>
         ensures answer { result ≡ put_answer self.now buffer.old }
         ensures after { buffer.new ≡ put self.now buffer.old }
+        ensures few { length self.now ≤ 16 }
     {
         put_first(&self.octets[0..self.count as usize], buffer)
     }
