@@ -1,14 +1,14 @@
 -- What copying a directive out of a queue answers and leaves.
-use Rattle.std.specs.Prelude.{◌≡◌, ℕ, ◌≤◌, true, cond, IfSome, List, length, is_ok, Some, None, Ok, Err, Option, Result, nat_le, slice_get}
+use Rattle.std.specs.Prelude.{◌≡◌, ℕ, ◌≤◌, min, true, cond, IfSome, List, length, is_ok, Some, None, Ok, Err, Option, Result, nat_le, slice_get}
 use Rattle.bits.specs.Codec.{beginning}
 use Rattle.ring.specs.Ring.{Numbers, queued}
 use Rattle.queue.specs.Queue.{fitting}
 use Rattle.queue.specs.declared.fault.QueueFault.{QueueFault}
 use Rattle.queue.specs.declared.fault.QueueFault.TheVariants.{Table}
 
--- for how many octets a held directive stands
+-- for how many octets a held directive stands: as many as it has, and they are 16 at most
 abbrev pub directive_octets : List ℕ → ℕ
-directive_octets o = length o
+directive_octets o = min (length o) 16
 
 -- what copying a directive out answers: how many octets it has, unless the buffer has no room for them; none of none
 abbrev pub directive_answer : Option (List ℕ) → List ℕ → Result (Option ℕ) QueueFault

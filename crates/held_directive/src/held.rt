@@ -72,7 +72,12 @@ impl HeldDirective {
 }
 
 impl Octets for HeldDirective {
-    ghost octets = { λ o. length o };
+    ghost use Rattle.std.specs.Prelude.{length, min};
+    ghost use Rattle.std.proofs.Common.{rules};
+
+    ghost octets = { λ o. min (length o) 16 };
+
+    ghost few = { Prim.search rules };
 
     fn octet_count(&self) -> u16 {
         self.count as u16

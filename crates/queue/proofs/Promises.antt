@@ -1,9 +1,8 @@
 -- What the calls of a queue promise of the queued elements, from the numbers and the table that they leave.
-use Rattle.std.proofs.Common.{◌≡◌, ℕ, subst, ◌+◌, ◌-◌, ◌^◌, ◌<◌, ◌≤◌, min, List, length, get_or, take, set, Some, None, Ok, sum_by, sym, ap, ◌∙◌, arith}
+use Rattle.std.proofs.Common.{◌≡◌, ℕ, ◌+◌, ◌-◌, ◌^◌, ◌<◌, ◌≤◌, min, List, length, get_or, take, set, Some, None, Ok, sum_by, sym, ap, ◌∙◌, arith}
 use Rattle.std.proofs.lemmas.List.Sums.{sum_by_push, sum_by-le}
-use Rattle.std.proofs.lemmas.List.Elements.{All-push, All-drop}
 use Rattle.std.proofs.lemmas.Bool.Decides.{nat_tests}
-use Rattle.std.specs.List.{All, slice_get}
+use Rattle.std.specs.List.{slice_get}
 use Rattle.std.proofs.lemmas.Option.{slice_get_read, slice_get_past}
 use Rattle.ring.specs.Ring.{Numbers, queued, index_of, grown, without, Sound}
 use Rattle.ring.proofs.Rings.{counted, element_read, queued_grown, queued_without}
@@ -27,13 +26,10 @@ module _ {T : Type 0} (g : Numbers) (t : List T) (s : Sound g) (fit : length t �
       }
 
   -- and the total, which does not reach the limit of a number: the octets of a full queue are far fewer
-  pub added_tied : (f : T → ℕ) (x : T) (n total m : ℕ) (g' : Numbers) (t' : List T) → g.size ≤ largest_table → f x ≤ most_octets → Added g t x (Ok n) g' t'
+  pub added_tied : (f : T → ℕ) → ((y : T) → f y ≤ most_octets) → (x : T) (n total m : ℕ) (g' : Numbers) (t' : List T) → g.size ≤ largest_table → Added g t x (Ok n) g' t'
       → m ≡ min (total + f x) (2 ^ 64 - 1) → Tied f (record { ring = g; total = total }) t → Tied f (record { ring = g'; total = m }) t'
-  added_tied f x n total m g' t' small few done least was = record {
-    total =
-        omega (arith, counted g t s fit, s.most, sum_by-le f most_octets (queued g t) was.few, ap (sum_by f) done.list, sum_by_push f (queued g t) x, was.total);
-    few = subst (All (λ y. f y ≤ most_octets)) (sym done.list) (All-push (λ y. f y ≤ most_octets) (queued g t) x was.few few);
-  }
+  added_tied f few x n total m g' t' small done least was =
+      omega (arith, few x, counted g t s fit, s.most, sum_by-le f most_octets (queued g t) (λ k d _. few (get_or (queued g t) k d)), ap (sum_by f) done.list, sum_by_push f (queued g t) x)
 
   -- freeing, granted: the list from the numbers
   pub freed : (n m : ℕ) (g' : Numbers) → m ≡ min n g.count → g' ≡ without (min m g.count) g → Freed g t n (Ok m) g'
@@ -44,11 +40,8 @@ module _ {T : Type 0} (g : Numbers) (t : List T) (s : Sound g) (fit : length t �
   -- and what is left of the total
   pub freed_tied : (f : T → ℕ) (n m total l : ℕ) (g' : Numbers) → m ≡ min n g.count → Freed g t n (Ok m) g'
       → l ≡ total - sum_by f (take m (queued g t)) → Tied f (record { ring = g; total = total }) t → Tied f (record { ring = g'; total = l }) t
-  freed_tied f n m total l g' least done left was = record {
-    total =
-        omega (arith, ap (sum_by f) done.list, ap (λ k. sum_by f (take k (queued g t))) least, sum_left f (queued g t) n g.count (counted g t s fit), was.total);
-    few = subst (All (λ y. f y ≤ most_octets)) (sym done.list) (All-drop (λ y. f y ≤ most_octets) n (queued g t) was.few);
-  }
+  freed_tied f n m total l g' least done left was =
+      omega (arith, ap (sum_by f) done.list, ap (λ k. sum_by f (take k (queued g t))) least, sum_left f (queued g t) n g.count (counted g t s fit))
 
   -- copying out: an element that was read at the index of its place
   pub copied : (k i : ℕ) (x : T) → k < g.count → i ≡ index_of g (min k g.size) → x ≡ get_or t i x → Ok (Some x) ≡ copied_at g t k

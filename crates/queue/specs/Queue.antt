@@ -1,8 +1,8 @@
 -- What each call of a queue answers and leaves.
-use Rattle.std.specs.Prelude.{◌≡◌, ℕ, ◌+◌, ◌≤◌, min, All, Bool, true, cond, ◌&&◌, List, [], ◌∷◌, ◌++◌, length, drop, is_ok, Ok, Err, sum_by, Option, Result, ◌==◌, nat_le, nat_lt, slice_get, slice_set}
+use Rattle.std.specs.Prelude.{◌≡◌, ℕ, ◌+◌, min, Bool, true, cond, ◌&&◌, List, [], ◌∷◌, ◌++◌, length, drop, is_ok, Ok, Err, sum_by, Option, Result, ◌==◌, nat_le, nat_lt, slice_get, slice_set}
 use Rattle.ring.specs.Ring.{Numbers, queued, index_of, grown, without}
 use Rattle.queue.specs.Counts.{Counts, empty_queue}
-use Rattle.queue.specs.Limits.{largest_table, most_octets}
+use Rattle.queue.specs.Limits.{largest_table}
 use Rattle.queue.specs.declared.fault.QueueFault.{QueueFault}
 use Rattle.queue.specs.declared.fault.QueueFault.TheVariants.{Full, Table}
 
@@ -18,10 +18,9 @@ over g t a = cond (fitting g t) (Ok a) (Err Table)
 abbrev pub making : ℕ → Result Counts QueueFault
 making n = cond (nat_lt 0 n && nat_le n largest_table) (Ok (empty_queue n)) (Err Table)
 
--- the kept total is the octets of the queued elements, none of which stands for too many
-pub record Tied {T : Type 0} (octets : T → ℕ) (q : Counts) (t : List T) : Type 0 where
-  pub total : q.total ≡ sum_by octets (queued q.ring t)
-  pub few : All (λ x. octets x ≤ most_octets) (queued q.ring t)
+-- the kept total is the octets of the queued elements
+abbrev pub Tied : {T : Type 0} → (T → ℕ) → Counts → List T → Type 0
+Tied octets q t = q.total ≡ sum_by octets (queued q.ring t)
 
 -- asking whether a table fits: over one that does, as many elements are queued as the count says; and over any table,
 -- a queue with a count and a total of 0, as one just made or cleared, has nothing queued, and is tied

@@ -16,10 +16,12 @@ pub const LARGEST_TABLE: usize = 256;
 pub trait Octets {
     ghost octets: { Self → ℕ };
 
-    /// How many octets the element stands for: no more than 2,048, so the total of a full queue fits a number.
+    /// How many octets the element stands for.
     fn octet_count(&self) -> u16
-        ensures count { result ≡ octets self.now }
-        ensures few { result ≤ most_octets };
+        ensures { result ≡ octets self.now };
+
+    // No element stands for more than 2,048 octets, so the total of a full queue fits a number.
+    ghost few: { (x : Self) → octets x ≤ most_octets };
 }
 
 /// A queue over a table of 1 to `LARGEST_TABLE` elements that the caller lends to each call.

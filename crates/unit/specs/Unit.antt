@@ -21,9 +21,9 @@ pub record UnitValue : Type 0 where
 abbrev pub note_of : UnitValue → Note
 note_of u = record { port = u.port; quality = u.quality; length = length u.octets }
 
--- for how many octets a slip stands
+-- for how many octets a slip stands: as many as its length says, and that is 2,043 at most
 abbrev pub slip_octets : Note → ℕ
-slip_octets s = s.length
+slip_octets s = min s.length 2043
 
 -- what of the store a unit at a table index may fill: 2,043 octets, from 2,048 times the index on
 abbrev pub slot : List ℕ → ℕ → List ℕ

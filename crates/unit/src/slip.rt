@@ -41,7 +41,12 @@ impl Slip {
 }
 
 impl Octets for Slip {
-    ghost octets = { λ s. s.length };
+    ghost use Rattle.std.specs.Prelude.{min};
+    ghost use Rattle.std.proofs.Common.{rules};
+
+    ghost octets = { λ s. min s.length 2043 };
+
+    ghost few = { Prim.search rules };
 
     fn octet_count(&self) -> u16 {
         self.length
