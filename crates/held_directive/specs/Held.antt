@@ -1,15 +1,15 @@
 -- Directives as a queue keeps them.
-use Rattle.std.specs.Prelude.{ℕ, cond, List, length, take, Some, None, Option, nat_le}
-use Rattle.held_directive.specs.declared.held.HeldDirective.{HeldDirective}
+use Rattle.std.specs.Prelude.{◌≡◌, ℕ, ◌-◌, ◌≤◌, cond, List, ◌++◌, length, take, replicate, Some, None, Option, nat_le}
 
--- the octets of a directive that is held
-abbrev pub held_octets : HeldDirective → List ℕ
-held_octets h = take h.length h.octets
+-- octets with zeros behind them, sixteen in all
+abbrev pub padded : List ℕ → List ℕ
+padded o = o ++ replicate (16 - length o) 0
 
--- the octets that were packed, if they were
-abbrev pub unpacked : Option HeldDirective → Option (List ℕ)
-unpacked (Some h) = Some (held_octets h)
-unpacked None = None
+-- so many of sixteen octets are a directive's, and those behind them are zero
+pub record Padded (octets : List ℕ) (n : ℕ) : Type 0 where
+  pub most : n ≤ 16
+  pub count : length (take n octets) ≡ n
+  pub zeros : octets ≡ padded (take n octets)
 
 -- packing keeps any octets, unless they are more than the longest directive has
 abbrev pub packing : List ℕ → Option (List ℕ)

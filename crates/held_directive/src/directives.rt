@@ -1,10 +1,11 @@
 //! Queues of directives.
 //!
-//! A queue of directives is the numbers of a queue and a table of directives that the caller lends to each call.
+//! A queue of directives is the numbers of a queue and a table of directives. The caller lends the table to each call,
+//! which tries first whether it fits, so the two stay two values. The calls hand on to those of any queue; they have
+//! the shape of the calls for units.
 ghost use Rattle.std.specs.Prelude.{◌≡◌, false, is_ok};
-ghost use Rattle.queue.specs.Queue.{Tied, fitting};
-ghost use Rattle.held_directive.specs.Directives.{CopiesDirective, FreesDirectives, HoldsDirective, directive_octets};
-ghost use Rattle.held_directive.specs.Held.{held_octets};
+ghost use Rattle.queue.specs.Queue.{Added, Fitted, Freed, Tied};
+ghost use Rattle.held_directive.specs.Directives.{CopiesDirective, directive_octets};
 
 use super::held::HeldDirective;
 use queue::fault::QueueFault;
@@ -18,9 +19,9 @@ pub struct Directives<'a> {
 
 /// Whether the table has the size that the queue was made for.
 pub fn directives_fit(queue: &Queue, directives: &Directives<'_>) -> bool
-    ensures { result ≡ fitting queue.now.ring directives.now.entries.now }
+    ensures { Fitted directive_octets queue.now directives.now.entries.now result }
 {
-    directives.entries.len() == queue.size()
+    queue.fits(directives.entries)
 }
 
 /// Queues a directive behind the others, and answers how many there are then.
@@ -29,7 +30,7 @@ pub fn hold_directive(
     directives: &mut Directives<'_>,
     directive: HeldDirective,
 ) -> Result<usize, QueueFault>
-    ensures held { HoldsDirective queue.old.ring queue.new.ring directives.old.entries.now directives.new.entries.now (held_octets directive) result }
+    ensures held { Added queue.old.ring directives.old.entries.now directive result queue.new.ring directives.new.entries.now }
     ensures tied { Tied directive_octets queue.old directives.old.entries.now → Tied directive_octets queue.new directives.new.entries.now }
     ensures kept { is_ok result ≡ false → queue.new ≡ queue.old }
 {
@@ -47,17 +48,11 @@ pub fn copy_directive(
 ) -> Result<Option<usize>, QueueFault>
     ensures { CopiesDirective queue.now.ring directives.now.entries.now place buffer.old buffer.new result }
 {
-    if !directives_fit(queue, directives) {
-        return Err(QueueFault::Table);
-    }
-    if place >= queue.count() {
+    let Some(directive) = queue.copy_out(directives.entries, place)? else {
         return Ok(None);
-    }
-    let directive = directives.entries[queue.index(place)];
-    match directive.unpack(buffer) {
-        Some(count) => Ok(Some(count)),
-        None => Err(QueueFault::Table),
-    }
+    };
+    let count = directive.unpack(buffer).ok_or(QueueFault::Table)?;
+    Ok(Some(count))
 }
 
 /// Lets the first n directives go, or all where there are fewer, and answers how many went.
@@ -66,7 +61,7 @@ pub fn free_directives(
     directives: &Directives<'_>,
     n: usize,
 ) -> Result<usize, QueueFault>
-    ensures freed { FreesDirectives queue.old.ring queue.new.ring directives.now.entries.now n result }
+    ensures freed { Freed queue.old.ring directives.now.entries.now n result queue.new.ring }
     ensures tied { Tied directive_octets queue.old directives.now.entries.now → Tied directive_octets queue.new directives.now.entries.now }
     ensures kept { is_ok result ≡ false → queue.new ≡ queue.old }
 {

@@ -1,28 +1,85 @@
 //! A directive in a queue.
-ghost use Rattle.std.specs.Prelude.{◌≤◌};
-ghost use Rattle.queue.specs.Limits.{most_octets};
-ghost use Rattle.std.proofs.Common.{rules, arith};
+ghost use Rattle.std.specs.Prelude.{◌≡◌, ◌≤◌, [], ◌∷◌, length};
+ghost use Rattle.bits.specs.Codec.{put, put_answer};
+ghost use Rattle.held_directive.specs.Held.{packing};
 
+use bits::put_first;
 use queue::queue::Octets;
+use std::marker::Model;
 
 /// How many octets the longest directive has.
 pub const LONGEST_DIRECTIVE: usize = 16;
 
 /// The octets of a directive, 16 at most. They are kept with their number in one value that can be copied, so that a
-/// table of them needs no store beside it.
-#[derive(Clone, Copy)]
+/// table of them needs no store beside it, and what is behind them is zero.
+#[derive(Clone, Copy, PartialEq, Eq, Debug)]
 pub struct HeldDirective {
-    pub(crate) octets: [u8; LONGEST_DIRECTIVE],
-    pub(crate) length: u8,
-    ghost most: { length ≤ 16 },
+    octets: [u8; LONGEST_DIRECTIVE],
+    count: u8,
+}
+
+impl Model for HeldDirective {
+    ghost use Rattle.std.specs.Prelude.{ℕ, List, length, take};
+    ghost use Rattle.std.proofs.Common.{ap₂, sym};
+    ghost use Rattle.held_directive.specs.Held.{Padded, padded};
+
+    ghost Value = { List ℕ };
+
+    ghost view = { λ h. take h.count h.octets };
+
+    ghost invariant = { λ h. Padded h.octets h.count };
+
+    ghost inverse = { λ o. record { octets = padded o; count = length o } };
+
+    ghost inverse_ok = { λ h p. ap₂ (λ o n. record { octets = o; count = n }) (sym p.zeros) p.count };
+}
+
+impl HeldDirective {
+    /// The directive with which a table is made: an SPDU of Type 5 without a directive. A queue never shows it.
+    pub fn blank() -> HeldDirective
+        ensures { result ≡ 64 ∷ [] }
+    {
+        let mut octets = [0; LONGEST_DIRECTIVE];
+        octets[0] = 0x40;
+        HeldDirective { octets, count: 1 }
+    }
+
+    /// Packs octets. None where they are more than 16.
+    pub fn pack(octets: &[u8]) -> Option<HeldDirective>
+        ensures { result ≡ packing octets.now }
+    {
+        let count = octets.len();
+        if count > LONGEST_DIRECTIVE {
+            return None;
+        }
+        let mut all = [0; LONGEST_DIRECTIVE];
+        all[0..count].copy_from_slice(octets);
+        Some(HeldDirective {
+            octets: all,
+            count: count as u8,
+        })
+    }
+
+    /// Copies the octets to the front of a buffer, and answers how many they are. None where they find no room: the
+    /// buffer then stays.
+    pub fn unpack(&self, buffer: &mut [u8]) -> Option<usize>
+        ensures answer { result ≡ put_answer self.now buffer.old }
+        ensures after { buffer.new ≡ put self.now buffer.old }
+        ensures few { length self.now ≤ 16 }
+    {
+        put_first(&self.octets[0..self.count as usize], buffer)
+    }
 }
 
 impl Octets for HeldDirective {
-    ghost octets = { λ h. h.length };
+    ghost use Rattle.std.specs.Prelude.{length, min};
+    ghost use Rattle.std.proofs.Common.{rules};
 
-    ghost few = { first_of (Prim.search rules, Prim.grind (arith, Self.row.coded.inj)) };
+    ghost octets = { λ o. min (length o) 16 };
+
+    ghost few = { Prim.search rules };
 
     fn octet_count(&self) -> u16 {
-        self.length as u16
+        self.count as u16
     }
 }

@@ -1,6 +1,5 @@
 //! Directives as a queue keeps them: their octets, in a table of their own.
 #![tactic(auto)]
 
-pub mod calls;
 pub mod directives;
 pub mod held;

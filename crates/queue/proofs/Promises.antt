@@ -1,67 +1,58 @@
 -- What the calls of a queue promise of the queued elements, from the numbers and the table that they leave.
-use Rattle.std.proofs.Common.{◌≡◌, ℕ, ◌+◌, ◌-◌, ◌*◌, ◌^◌, ◌<◌, ◌≤◌, min, true, false, List, [], ◌++◌, length, get_or, take, drop, set, Ok, sum_by, sym, refl, ap, ◌∙◌, arith}
-use Rattle.std.proofs.lemmas.List.Sums.{sum_by_push}
+use Rattle.std.proofs.Common.{◌≡◌, ℕ, ◌+◌, ◌-◌, ◌^◌, ◌<◌, ◌≤◌, min, List, length, get_or, take, set, Some, None, Ok, sum_by, sym, ap, ◌∙◌, arith}
+use Rattle.std.proofs.lemmas.List.Sums.{sum_by_push, sum_by-le}
 use Rattle.std.proofs.lemmas.Bool.Decides.{nat_tests}
-use Rattle.queue.specs.Limits.{most_octets}
-use Rattle.queue.specs.Queue.{Added, Copied, Freed, Tied}
-use Rattle.queue.specs.Ring.{queued, index_of, grown, without, Sound}
-use Rattle.queue.specs.declared.queue.Queue.{Queue}
-use Rattle.queue.specs.declared.ring.Ring.{Ring}
-use Rattle.queue.proofs.Rings.{counted, element_read, no_element, queued_grown, queued_without}
-use Rattle.queue.proofs.Sums.{sum_bound, sum_left}
+use Rattle.std.specs.List.{slice_get}
+use Rattle.std.proofs.lemmas.Option.{slice_get_read, slice_get_past}
+use Rattle.ring.specs.Ring.{Numbers, queued, index_of, grown, without, Sound}
+use Rattle.ring.proofs.Rings.{counted, element_read, queued_grown, queued_without}
+use Rattle.queue.specs.Limits.{largest_table, most_octets}
+use Rattle.queue.specs.Queue.{Added, Freed, Tied, copied_at}
+use Rattle.queue.proofs.Sums.{sum_left}
 
--- the numbers of a queue are sound
-pub sound : (q : Queue) → Sound q.ring
-sound q = record { within = q.within; most = q.most; small = q.small }
+module _ {T : Type 0} (g : Numbers) (t : List T) (s : Sound g) (fit : length t ≡ g.size) where
+  -- adding, granted: the list from the numbers and the table
+  pub added : (x : T) (n : ℕ) (g' : Numbers) (t' : List T) → g.count < g.size → n ≡ g'.count → g' ≡ grown (min 1 (g.size - g.count)) g → t' ≡ set t (index_of g (min g.count g.size)) x → Added g t x (Ok n) g' t'
+  added x n g' t' room count numbers table =
+      let one : min 1 (g.size - g.count) ≡ 1 = omega arith in
+      let all : min g.count g.size ≡ g.count = omega arith in
+      let numbers : g' ≡ grown 1 g = numbers ∙ ap (λ k. grown k g) one in
+      let table : t' ≡ set t (index_of g g.count) x = table ∙ ap (λ k. set t (index_of g k) x) all in
+      record {
+        answer = ap Ok (count ∙ ap (λ h. h.count) numbers) ∙ grind (arith, nat_tests);
+        numbers = numbers;
+        table = table;
+        list = ap (λ h. queued h t') numbers ∙ ap (queued (grown 1 g)) table ∙ queued_grown g t x s fit room;
+      }
 
--- a queue of none
-pub none_queued : {T : Type 0} (q : Queue) (t : List T) → q.ring.count ≡ 0 → queued q.ring t ≡ []
-none_queued q t none = ap (λ n. take n (drop q.ring.first (t ++ t))) none
+  -- and the total, which does not reach the limit of a number: the octets of a full queue are far fewer
+  pub added_tied : (f : T → ℕ) → ((y : T) → f y ≤ most_octets) → (x : T) (n total m : ℕ) (g' : Numbers) (t' : List T) → g.size ≤ largest_table → Added g t x (Ok n) g' t'
+      → m ≡ min (total + f x) (2 ^ 64 - 1) → Tied f (record { ring = g; total = total }) t → Tied f (record { ring = g'; total = m }) t'
+  added_tied f few x n total m g' t' small done least was =
+      omega (arith, few x, counted g t s fit, s.most, sum_by-le f most_octets (queued g t) (λ k d _. few (get_or (queued g t) k d)), ap (sum_by f) done.list, sum_by_push f (queued g t) x)
 
--- is tied
-pub empty_tied : {T : Type 0} (f : T → ℕ) (q : Queue) (t : List T) → q.ring.count ≡ 0 → q.total ≡ 0 → Tied f q t
-empty_tied f q t none zero = zero ∙ sym (ap (sum_by f) (none_queued q t none))
+  -- freeing, granted: the list from the numbers
+  pub freed : (n m : ℕ) (g' : Numbers) → m ≡ min n g.count → g' ≡ without (min m g.count) g → Freed g t n (Ok m) g'
+  freed n m g' least numbers =
+      let numbers : g' ≡ without (min n g.count) g = numbers ∙ ap (λ k. without k g) (let e : min m g.count ≡ min n g.count = omega arith in e) in
+      record { answer = grind (arith, nat_tests); numbers = numbers; list = ap (λ h. queued h t) numbers ∙ queued_without g t n s fit }
 
--- adding, granted: the list from the numbers and the table
-pub added : {T : Type 0} (q : Queue) (t : List T) (x : T) (n : ℕ) (g' : Ring) (t' : List T) → length t ≡ q.ring.size → q.ring.count < q.ring.size
-    → n ≡ q.ring.count + 1 → g' ≡ grown q.ring → t' ≡ set t (index_of q.ring q.ring.count) x → Added q.ring t x (Ok n) g' t'
-added q t x n g' t' fit room count numbers table = record {
-  answer = grind (arith, nat_tests);
-  numbers = numbers;
-  table = table;
-  list = ap (λ h. queued h t') numbers ∙ ap (queued (grown q.ring)) table ∙ queued_grown q.ring t x (sound q) fit room;
-}
+  -- and what is left of the total
+  pub freed_tied : (f : T → ℕ) (n m total l : ℕ) (g' : Numbers) → m ≡ min n g.count → Freed g t n (Ok m) g'
+      → l ≡ total - sum_by f (take m (queued g t)) → Tied f (record { ring = g; total = total }) t → Tied f (record { ring = g'; total = l }) t
+  freed_tied f n m total l g' least done left was =
+      omega (arith, ap (sum_by f) done.list, ap (λ k. sum_by f (take k (queued g t))) least, sum_left f (queued g t) n g.count (counted g t s fit))
 
--- and the total, which does not reach the limit of a number: the octets of a full queue are far fewer
-pub added_tied : {T : Type 0} (f : T → ℕ) → ((x : T) → f x ≤ most_octets) → (q : Queue) (t : List T) (x : T) (total : ℕ) (g' : Ring) (t' : List T)
-    → length t ≡ q.ring.size → q.ring.count < q.ring.size → g' ≡ grown q.ring → t' ≡ set t (index_of q.ring q.ring.count) x
-    → total ≡ min (q.total + f x) (2 ^ 64 - 1) → Tied f q t → total ≡ sum_by f (queued g' t')
-added_tied f few q t x total g' t' fit room numbers table more was =
-    let list = (added q t x (q.ring.count + 1) g' t' fit room refl numbers table).list in
-    let bound : sum_by f (queued q.ring t) ≤ most_octets * length (queued q.ring t) = sum_bound f few (queued q.ring t) in
-    let all : sum_by f (queued g' t') ≡ sum_by f (queued q.ring t) + f x = ap (sum_by f) list ∙ sum_by_push f (queued q.ring t) x in
-    omega (arith, few x, counted q.ring t (sound q) fit, q.most, q.small)
+  -- copying out: an element that was read at the index of its place
+  pub copied : (k i : ℕ) (x : T) → k < g.count → i ≡ index_of g (min k g.size) → x ≡ get_or t i x → Ok (Some x) ≡ copied_at g t k
+  copied k i x some at read =
+      let here : min k g.size ≡ k = omega (arith, s.most) in
+      let there : x ≡ get_or (queued g t) k x = element_read g t s fit k x x some (read ∙ ap (λ j. get_or t j x) (at ∙ ap (index_of g) here)) in
+      let got : slice_get (queued g t) k ≡ Some x = slice_get_read (queued g t) g.count k x (sym (counted g t s fit)) some there in
+      grind (arith, nat_tests)
 
--- freeing, granted: the list from the numbers
-pub freed : {T : Type 0} (q : Queue) (t : List T) (n m : ℕ) (g' : Ring) → length t ≡ q.ring.size → m ≡ min n q.ring.count → g' ≡ without (min n q.ring.count) q.ring → Freed q.ring t n (Ok m) g'
-freed q t n m g' fit least numbers =
-    record { answer = grind (arith, nat_tests); numbers = numbers; list = ap (λ h. queued h t) numbers ∙ queued_without q.ring t n (sound q) fit }
-
--- and what is left of the total
-pub freed_tied : {T : Type 0} (f : T → ℕ) (q : Queue) (t : List T) (n total : ℕ) (g' : Ring) → length t ≡ q.ring.size → g' ≡ without (min n q.ring.count) q.ring
-    → total ≡ q.total - sum_by f (take (min n q.ring.count) (queued q.ring t)) → Tied f q t → total ≡ sum_by f (queued g' t)
-freed_tied f q t n total g' fit numbers less was =
-    let list = (freed q t n (min n q.ring.count) g' fit refl numbers).list in
-    omega (arith, ap (sum_by f) list, sum_left f (queued q.ring t) n q.ring.count (counted q.ring t (sound q) fit))
-
--- copying out: an element that was read at the index of its place
-pub copied : {T : Type 0} (q : Queue) (t : List T) (k i : ℕ) (x d : T) → length t ≡ q.ring.size → k < q.ring.count → i ≡ index_of q.ring k → x ≡ get_or t i x → Copied q.ring t k d (Ok true) x
-copied q t k i x d fit some at read =
-    let there : x ≡ get_or (queued q.ring t) k d = element_read q.ring t (sound q) fit k x d some (read ∙ ap (λ j. get_or t j x) at) in
-    record { answer = grind (arith, nat_tests); copy = grind (arith, nat_tests) }
-
--- or none, past the last
-pub not_copied : {T : Type 0} (q : Queue) (t : List T) (k : ℕ) (x : T) → length t ≡ q.ring.size → q.ring.count ≤ k → Copied q.ring t k x (Ok false) x
-not_copied q t k x fit none =
-    let there : x ≡ get_or (queued q.ring t) k x = no_element q.ring t (sound q) fit k x none in
-    record { answer = grind (arith, nat_tests); copy = grind (arith, nat_tests) }
+  -- or none, past the last
+  pub none_copied : (k : ℕ) → g.count ≤ k → Ok None ≡ copied_at g t k
+  none_copied k none =
+      let got : slice_get (queued g t) k ≡ None = slice_get_past (queued g t) k (omega (arith, counted g t s fit)) in
+      grind (arith, nat_tests)

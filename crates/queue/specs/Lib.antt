@@ -1,4 +1,4 @@
 pub mod Limits
+pub mod Counts
 pub mod Fault
-pub mod Ring
 pub mod Queue

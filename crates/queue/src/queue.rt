@@ -1,8 +1,13 @@
-//! What a queue is, and what it asks of its elements.
-ghost use Rattle.std.specs.Prelude.{◌≡◌, ℕ, ◌<◌, ◌≤◌};
+//! What a queue is, what it asks of its elements, and its calls.
+ghost use Rattle.std.specs.Prelude.{◌≡◌, ℕ, ◌<◌, ◌≤◌, min, false, length, take, is_ok, OnOk, sum_by};
+ghost use Rattle.ring.specs.Ring.{Sound, index_of, queued};
+ghost use Rattle.queue.specs.Counts.{empty_queue};
 ghost use Rattle.queue.specs.Limits.{largest_table, most_octets};
+ghost use Rattle.queue.specs.Queue.{Added, Fitted, Freed, Tied, copied_at, making, over};
 
-use super::ring::Ring;
+use super::fault::QueueFault;
+use ring::Ring;
+use std::marker::Model;
 
 /// How many elements the largest table has.
 pub const LARGEST_TABLE: usize = 256;
@@ -20,12 +25,163 @@ pub trait Octets {
 }
 
 /// A queue over a table of 1 to `LARGEST_TABLE` elements that the caller lends to each call.
-#[derive(Clone, Copy)]
+#[derive(Clone, Copy, PartialEq, Eq, Debug)]
 pub struct Queue {
-    pub(crate) ring: Ring,
+    ring: Ring,
     // The octets of the queued elements together, so that telling them reads no element.
-    pub(crate) total: usize,
-    ghost within: { ring.first < ring.size },
-    ghost most: { ring.count ≤ ring.size },
-    ghost small: { ring.size ≤ largest_table },
+    total: usize,
+}
+
+impl Model for Queue {
+    ghost use Rattle.std.specs.Prelude.{◌≤◌};
+    ghost use Rattle.queue.specs.Counts.{Counts};
+    ghost use Rattle.queue.specs.Limits.{largest_table};
+
+    ghost Value = { Counts };
+
+    ghost view = { λ q. record { ring = q.ring; total = q.total } };
+
+    ghost invariant = { λ q. q.ring.size ≤ largest_table };
+
+    ghost inverse = { λ n. record { ring = n.ring; total = n.total } };
+}
+
+impl Queue {
+    /// An empty queue for a table of `size` elements, 1 to `LARGEST_TABLE`.
+    pub fn new(size: usize) -> Result<Queue, QueueFault>
+        ensures { result ≡ making size }
+    {
+        if size > LARGEST_TABLE {
+            return Err(QueueFault::Table);
+        }
+        let ring = Ring::new(size).ok_or(QueueFault::Table)?;
+        Ok(Queue { ring, total: 0 })
+    }
+
+    /// How many elements are queued.
+    pub fn count(&self) -> usize
+        ensures { result ≡ self.now.ring.count }
+    {
+        self.ring.count()
+    }
+
+    /// How many elements the table has that the queue was made for.
+    pub fn size(&self) -> usize
+        ensures size { result ≡ self.now.ring.size }
+        ensures sound { Sound self.now.ring }
+        ensures small { result ≤ largest_table }
+    {
+        self.ring.size()
+    }
+
+    /// How many octets the queued elements stand for together.
+    pub fn total(&self) -> usize
+        ensures { result ≡ self.now.total }
+    {
+        self.total
+    }
+
+    /// Whether the table has the size that the queue was made for.
+    pub fn fits<T: Octets>(&self, table: &[T]) -> bool
+        ensures { Fitted T.octets self.now table.now result }
+    {
+        table.len() == self.ring.size()
+    }
+
+    /// The index in the table of a place of the queue, and of the place after the last, where the next element goes.
+    /// A place past the size of the table counts as the size.
+    pub fn index(&self, place: usize) -> usize
+        ensures at { result ≡ index_of self.now.ring (min place self.now.ring.size) }
+        ensures within { result < self.now.ring.size }
+    {
+        self.ring.index(place)
+    }
+
+    /// Adds x behind the others, and answers how many there are then.
+    pub fn add<T: Copy + Octets>(&mut self, table: &mut [T], x: T) -> Result<usize, QueueFault>
+        ensures added { Added self.old.ring table.old x result self.new.ring table.new }
+        ensures tied { Tied T.octets self.old table.old → Tied T.octets self.new table.new }
+        ensures kept { is_ok result ≡ false → self.new ≡ self.old }
+    {
+        check_table(self.ring, table)?;
+        let count = self.ring.count();
+        if count >= self.ring.size() {
+            return Err(QueueFault::Full);
+        }
+        table[self.ring.index(count)] = x;
+        let total = self.total.saturating_add(x.octet_count() as usize);
+        *self = Queue {
+            ring: self.ring.longer(1),
+            total,
+        };
+        Ok(self.ring.count())
+    }
+
+    /// Lets the first n elements go, or all where there are fewer, and answers how many went. It reads the elements
+    /// that leave, for their octets, and no other.
+    pub fn free<T: Octets>(&mut self, table: &[T], n: usize) -> Result<usize, QueueFault>
+        ensures freed { Freed self.old.ring table.now n result self.new.ring }
+        ensures tied { Tied T.octets self.old table.now → Tied T.octets self.new table.now }
+        ensures kept { is_ok result ≡ false → self.new ≡ self.old }
+    {
+        check_table(self.ring, table)?;
+        let gone = n.min(self.ring.count());
+        let total = self
+            .total
+            .saturating_sub(octets_of_first(self.ring, table, gone));
+        *self = Queue {
+            ring: self.ring.shorter(gone),
+            total,
+        };
+        Ok(gone)
+    }
+
+    /// Lets all elements go.
+    pub fn clear(&mut self)
+        ensures { self.new ≡ empty_queue self.old.ring.size }
+    {
+        *self = Queue {
+            ring: self.ring.cleared(),
+            total: 0,
+        };
+    }
+
+    /// A copy of the element at a place, counted from 0 at the oldest, or none where there is none.
+    pub fn copy_out<T: Copy>(&self, table: &[T], place: usize) -> Result<Option<T>, QueueFault>
+        ensures { result ≡ copied_at self.now.ring table.now place }
+    {
+        check_table(self.ring, table)?;
+        if place >= self.ring.count() {
+            return Ok(None);
+        }
+        Ok(Some(table[self.ring.index(place)]))
+    }
+}
+
+// The octets of the first n elements, which are met from the first place on, and round the table's end.
+fn octets_of_first<T: Octets>(ring: Ring, table: &[T], n: usize) -> usize
+    requires whole { length table.now ≡ ring.size }
+    requires small { ring.size ≤ largest_table }
+    requires few { n ≤ ring.count }
+    ensures { result ≡ sum_by T.octets (take n (queued ring table.now)) }
+{
+    table[ring.first()..]
+        .iter()
+        .chain(table)
+        .take(n)
+        .map(|x| x.octet_count() as usize)
+        .sum()
+}
+
+// Refuses a table that has not the size that the ring was made for.
+fn check_table<T>(ring: Ring, table: &[T]) -> Result<(), QueueFault>
+    ensures answer { result ≡ over ring table.now tt }
+    ensures size { OnOk result (length table.now ≡ ring.size) }
+    ensures sound { Sound ring }
+{
+    if table.len() == ring.size() {
+        Ok(())
+    } else {
+        Err(QueueFault::Table)
+    }
 }

@@ -28,9 +28,7 @@ fn three_through_two() -> Result<Outcome, UnitFault> {
     let mut slips = [Slip::blank(); 2];
     let mut store = [0u8; 4096];
     let mut buffer = [0u8; 2043];
-    let Ok(mut queue) = Queue::new(2) else {
-        return Err(UnitFault::Memory);
-    };
+    let mut queue = Queue::new(2)?;
     let mut units = Units {
         slips: &mut slips,
         store: &mut store,
@@ -51,10 +49,7 @@ fn three_through_two() -> Result<Outcome, UnitFault> {
         Quality::SequenceControlled,
         &[30, 31, 32],
     )?;
-    let oldest = match copy_unit(&queue, &units, 0, &mut buffer)? {
-        Some(note) => note.port,
-        None => 0,
-    };
+    let oldest = copy_unit(&queue, &units, 0, &mut buffer)?.map_or(0, |slip| slip.port);
     let _ = copy_unit(&queue, &units, 1, &mut buffer)?;
     Ok(Outcome {
         most,
@@ -64,27 +59,28 @@ fn three_through_two() -> Result<Outcome, UnitFault> {
     })
 }
 
+// The last of the first octets of a buffer, so many of them, or 0 of a buffer that has not as many.
+fn last_of(octets: &[u8], length: usize) -> u8 {
+    octets.get(length.saturating_sub(1)).copied().unwrap_or(0)
+}
+
+// Packs a directive, which is refused as a full queue where it is too long.
+fn pack(octets: &[u8]) -> Result<HeldDirective, QueueFault> {
+    HeldDirective::pack(octets).ok_or(QueueFault::Full)
+}
+
 // Packs two directives into a queue, and answers the second's length and last octet.
 fn second_of_two(first: &[u8], second: &[u8]) -> Result<(usize, u8), QueueFault> {
-    let Some(first) = HeldDirective::pack(first) else {
-        return Err(QueueFault::Full);
-    };
-    let Some(second) = HeldDirective::pack(second) else {
-        return Err(QueueFault::Full);
-    };
+    let first = pack(first)?;
+    let second = pack(second)?;
     let mut table = [first; 2];
     let mut queue = Queue::new(2)?;
     queue.add(&mut table, first)?;
     queue.add(&mut table, second)?;
-    let mut out = first;
+    let out = queue.copy_out(&table, 1)?.unwrap_or(first);
     let mut octets = [0u8; 16];
-    let _ = queue.copy_out(&table, 1, &mut out)?;
     let length = out.unpack(&mut octets).unwrap_or(0);
-    let last = match octets.get(length.saturating_sub(1)) {
-        Some(octet) => *octet,
-        None => 0,
-    };
-    Ok((length, last))
+    Ok((length, last_of(&octets, length)))
 }
 
 // Queues three directives in a queue of two, letting the first go before the third, and answers the third's length and
@@ -97,22 +93,12 @@ fn third_of_three(first: &[u8], second: &[u8], third: &[u8]) -> Result<(usize, u
     let mut queue = Queue::new(2)?;
     let mut buffer = [0u8; 16];
     for octets in [first, second] {
-        let Some(directive) = HeldDirective::pack(octets) else {
-            return Err(QueueFault::Full);
-        };
-        hold_directive(&mut queue, &mut directives, directive)?;
+        hold_directive(&mut queue, &mut directives, pack(octets)?)?;
     }
     let _ = free_directives(&mut queue, &directives, 1)?;
-    let Some(directive) = HeldDirective::pack(third) else {
-        return Err(QueueFault::Full);
-    };
-    hold_directive(&mut queue, &mut directives, directive)?;
+    hold_directive(&mut queue, &mut directives, pack(third)?)?;
     let length = copy_directive(&queue, &directives, 1, &mut buffer)?.unwrap_or(0);
-    let last = match buffer.get(length.saturating_sub(1)) {
-        Some(octet) => *octet,
-        None => 0,
-    };
-    Ok((length, last))
+    Ok((length, last_of(&buffer, length)))
 }
 
 #[cfg(test)]

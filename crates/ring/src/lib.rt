@@ -5,7 +5,7 @@
 #![tactic(auto)]
 
 ghost use Rattle.std.specs.Prelude.{◌≡◌, ◌-◌, ◌<◌, min};
-ghost use Rattle.ring.specs.Ring.{grown, index_of, making, without};
+ghost use Rattle.ring.specs.Ring.{Sound, empty_ring, grown, index_of, making, without};
 
 use std::marker::Model;
 
@@ -63,7 +63,8 @@ impl Ring {
 
     /// How many places there are.
     pub fn size(self) -> usize
-        ensures { result ≡ self.size }
+        ensures size { result ≡ self.size }
+        ensures sound { Sound self }
     {
         self.size
     }
@@ -76,6 +77,17 @@ impl Ring {
     {
         let i = self.first + k.min(self.size);
         if i < self.size { i } else { i - self.size }
+    }
+
+    /// The ring of as many places, of which none is used.
+    pub fn cleared(self) -> Ring
+        ensures { result ≡ empty_ring self.size }
+    {
+        Ring {
+            first: 0,
+            count: 0,
+            size: self.size,
+        }
     }
 
     /// So many places more are used behind the others, or as many as are free.

@@ -1,2 +1,2 @@
-pub mod Holding
-pub mod Copying
+pub mod Slots
+pub mod Queueing

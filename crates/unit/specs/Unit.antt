@@ -1,15 +1,15 @@
 -- The units that a queue of slips and a store stand for.
-use Rattle.std.specs.Prelude.{◌≡◌, ℕ, ◌+◌, ◌*◌, min, Bool, cond, ◌&&◌, List, [], ◌∷◌, ◌++◌, map, length, take, drop, is_ok, Some, None, Ok, Err, Option, Result, ◌==◌, nat_le, nat_lt, slice_set}
+use Rattle.std.specs.Prelude.{◌≡◌, ℕ, ◌+◌, ◌*◌, min, Bool, cond, ◌&&◌, List, [], ◌∷◌, ◌++◌, map, length, take, drop, is_ok, Some, None, Ok, Err, Option, Result, ◌==◌, nat_le, nat_lt, slice_get, slice_set}
+use Rattle.std.specs.List.{enumerate_from}
+use Rattle.std.specs.Option.{option_map}
 use Rattle.bits.specs.Codec.{beginning}
 use Rattle.frame.specs.declared.header.Quality.{Quality}
 use Rattle.line.specs.Memory.{laid}
 use Rattle.queue.specs.Queue.{fitting}
-use Rattle.queue.specs.Ring.{queued, index_of, grown, without}
-use Rattle.queue.specs.declared.ring.Ring.{Ring}
+use Rattle.ring.specs.Ring.{Numbers, queued, index_of, grown, without}
+use Rattle.unit.specs.Note.{Note}
 use Rattle.unit.specs.declared.fault.UnitFault.{UnitFault}
 use Rattle.unit.specs.declared.fault.UnitFault.TheVariants.{Unit, Full, Memory}
-use Rattle.unit.specs.declared.slip.Note.{Note}
-use Rattle.unit.specs.declared.slip.Slip.{Slip}
 
 -- a unit: its port, its quality and its octets
 pub record UnitValue : Type 0 where
@@ -21,29 +21,28 @@ pub record UnitValue : Type 0 where
 abbrev pub note_of : UnitValue → Note
 note_of u = record { port = u.port; quality = u.quality; length = length u.octets }
 
--- what a slip notes
-abbrev pub note : Slip → Note
-note s = record { port = s.port; quality = s.quality; length = s.length }
+-- for how many octets a slip stands: as many as its length says, and that is 2,043 at most
+abbrev pub slip_octets : Note → ℕ
+slip_octets s = min s.length 2043
 
--- for how many octets a slip stands
-abbrev pub slip_octets : Slip → ℕ
-slip_octets s = s.length
+-- what of the store a unit at a table index may fill: 2,043 octets, from 2,048 times the index on
+abbrev pub slot : List ℕ → ℕ → List ℕ
+slot store i = take 2043 (drop (2048 * i) store)
 
--- the unit of the slip at a table index: its octets start at 2,048 times the index in the store
-abbrev pub unit_at : List ℕ → ℕ → Slip → UnitValue
-unit_at store i s = record { port = s.port; quality = s.quality; octets = take s.length (drop (2048 * i) store) }
+-- the unit of the slip at a table index: its octets stand first in the index's slot
+abbrev pub unit_at : List ℕ → ℕ → Note → UnitValue
+unit_at store i s = record { port = s.port; quality = s.quality; octets = take s.length (slot store i) }
 
--- the units of all slips of a table, the first of which stands at this index
-abbrev pub held_from : List ℕ → ℕ → List Slip → List UnitValue
-held_from store i [] = []
-held_from store i (s ∷ ss) = unit_at store i s ∷ held_from store (i + 1) ss
+-- the units of all slips of a table
+abbrev pub all_units : List Note → List ℕ → List UnitValue
+all_units slips store = map (λ p. unit_at store p.0 p.1) (enumerate_from 0 slips)
 
 -- the units that are queued, oldest first
-abbrev pub units_in : Ring → List Slip → List ℕ → List UnitValue
-units_in g slips store = queued g (held_from store 0 slips)
+abbrev pub units_in : Numbers → List Note → List ℕ → List UnitValue
+units_in g slips store = queued g (all_units slips store)
 
 -- the memory of a queue of units: a table of the queue's size, and a store of 2,048 octets for each of its slips
-abbrev pub memory_fits : Ring → List Slip → List ℕ → Bool
+abbrev pub memory_fits : Numbers → List Note → List ℕ → Bool
 memory_fits g slips store = fitting g slips && length store == 2048 * g.size
 
 -- a unit has 1 to 2,043 octets and a port up to 7
@@ -51,7 +50,7 @@ abbrev pub is_unit : UnitValue → Bool
 is_unit u = (nat_le 1 (length u.octets) && nat_le (length u.octets) 2043) && nat_le u.port 7
 
 -- what queueing a unit answers: the memory, then the unit, then room; else the count after it
-abbrev pub hold_answer : Ring → List Slip → List ℕ → UnitValue → Result ℕ UnitFault
+abbrev pub hold_answer : Numbers → List Note → List ℕ → UnitValue → Result ℕ UnitFault
 hold_answer g slips store u =
     cond (memory_fits g slips store)
     (cond (is_unit u)
@@ -61,22 +60,17 @@ hold_answer g slips store u =
 
 -- queueing a unit: it stands behind the others; its slip is at one index of the table and its octets are in the store
 -- where this index tells, and all else is as it was; a refusal changes nothing
-pub record Holds (g g' : Ring) (slips slips' : List Slip) (store store' : List ℕ) (u : UnitValue) (r : Result ℕ UnitFault) : Type 0 where
+pub record Holds (g g' : Numbers) (slips slips' : List Note) (store store' : List ℕ) (u : UnitValue) (r : Result ℕ UnitFault) : Type 0 where
   pub answer : r ≡ hold_answer g slips store u
-  pub numbers : g' ≡ cond (is_ok r) (grown g) g
-  pub table : map note slips' ≡ cond (is_ok r) (slice_set (map note slips) (index_of g g.count) (note_of u)) (map note slips)
+  pub numbers : g' ≡ cond (is_ok r) (grown 1 g) g
+  pub table : slips' ≡ cond (is_ok r) (slice_set slips (index_of g g.count) (note_of u)) slips
   pub octets : store' ≡ cond (is_ok r) (laid store (2048 * index_of g g.count) u.octets) store
   pub units : units_in g' slips' store' ≡ cond (is_ok r) (units_in g slips store ++ u ∷ []) (units_in g slips store)
 
--- the note of the first of some units, if there is one
-abbrev pub first_note : List UnitValue → Option Note
-first_note [] = None
-first_note (u ∷ us) = Some (note_of u)
-
--- a buffer with the octets of the first of some units at its beginning, if there is one
-abbrev pub first_shown : List UnitValue → List ℕ → List ℕ
-first_shown [] buffer = buffer
-first_shown (u ∷ us) buffer = beginning u.octets buffer
+-- a buffer with the octets of a unit at its beginning, if there is one
+abbrev pub unit_shown : Option UnitValue → List ℕ → List ℕ
+unit_shown None buffer = buffer
+unit_shown (Some u) buffer = beginning u.octets buffer
 
 -- a buffer with room for any unit
 abbrev pub roomy : List ℕ → Bool
@@ -84,12 +78,12 @@ roomy buffer = nat_le 2043 (length buffer)
 
 -- copying the unit at a place out: its note is answered and its octets come first in the buffer; where there is none,
 -- none is answered; the rest of the buffer, and without a unit or with a refusal all of it, is as it was
-pub record CopiesOut (g : Ring) (slips : List Slip) (store : List ℕ) (place : ℕ) (buffer buffer' : List ℕ) (r : Result (Option Note) UnitFault) : Type 0 where
-  pub answer : r ≡ cond (memory_fits g slips store && roomy buffer) (Ok (first_note (drop place (units_in g slips store)))) (Err Memory)
-  pub after : buffer' ≡ cond (is_ok r) (first_shown (drop place (units_in g slips store)) buffer) buffer
+pub record CopiesOut (g : Numbers) (slips : List Note) (store : List ℕ) (place : ℕ) (buffer buffer' : List ℕ) (r : Result (Option Note) UnitFault) : Type 0 where
+  pub answer : r ≡ cond (memory_fits g slips store && roomy buffer) (Ok (option_map note_of (slice_get (units_in g slips store) place))) (Err Memory)
+  pub after : buffer' ≡ cond (is_ok r) (unit_shown (slice_get (units_in g slips store) place) buffer) buffer
 
 -- letting the first n units go, or all where there are fewer: answers how many went
-pub record LetsGo (g g' : Ring) (slips : List Slip) (store : List ℕ) (n : ℕ) (r : Result ℕ UnitFault) : Type 0 where
+pub record LetsGo (g g' : Numbers) (slips : List Note) (store : List ℕ) (n : ℕ) (r : Result ℕ UnitFault) : Type 0 where
   pub answer : r ≡ cond (memory_fits g slips store) (Ok (min n g.count)) (Err Memory)
   pub numbers : g' ≡ cond (is_ok r) (without (min n g.count) g) g
   pub units : units_in g' slips store ≡ cond (is_ok r) (drop n (units_in g slips store)) (units_in g slips store)

@@ -1,33 +1,52 @@
-//! What a queue keeps of a unit beside its octets, and what it tells of one.
-ghost use Rattle.std.specs.Prelude.{◌≤◌};
-ghost use Rattle.queue.specs.Limits.{most_octets};
-ghost use Rattle.std.proofs.Common.{rules, arith};
+//! What a queue keeps of a unit beside its octets.
+ghost use Rattle.std.specs.Prelude.{◌≡◌};
+ghost use Rattle.frame.specs.declared.header.Quality.TheVariants.{SequenceControlled};
 
 use frame::header::Quality;
 use queue::queue::Octets;
+use std::marker::Model;
 
-/// What is told of a unit beside its octets.
+/// A unit's port, up to 7, its quality, and its length, 2,043 at most; its octets are in the store.
 #[derive(Clone, Copy, PartialEq, Eq, Debug)]
-pub struct Note {
+pub struct Slip {
     pub port: u8,
     pub quality: Quality,
     pub length: u16,
 }
 
-/// A unit's port, quality and length; its octets are in the store.
-#[derive(Clone, Copy)]
-pub struct Slip {
-    pub(crate) port: u8,
-    pub(crate) quality: Quality,
-    pub(crate) length: u16,
-    ghost most: { length ≤ 2043 },
-    ghost near: { port ≤ 7 },
+impl Model for Slip {
+    ghost use Rattle.std.specs.Prelude.{◌≤◌};
+    ghost use Rattle.unit.specs.Note.{Note};
+
+    ghost Value = { Note };
+
+    ghost view = { λ s. record { port = s.port; quality = s.quality; length = s.length } };
+
+    ghost invariant = { λ s. (s.port ≤ 7) × (s.length ≤ 2043) };
+
+    ghost inverse = { λ n. record { port = n.port; quality = n.quality; length = n.length } };
+}
+
+impl Slip {
+    /// The slip of no unit, with which a table is made. A queue never shows it.
+    pub fn blank() -> Slip
+        ensures { result ≡ record { port = 0; quality = SequenceControlled; length = 0 } }
+    {
+        Slip {
+            port: 0,
+            quality: Quality::SequenceControlled,
+            length: 0,
+        }
+    }
 }
 
 impl Octets for Slip {
-    ghost octets = { λ s. s.length };
+    ghost use Rattle.std.specs.Prelude.{min};
+    ghost use Rattle.std.proofs.Common.{rules};
 
-    ghost few = { first_of (Prim.search rules, Prim.grind (arith, Self.row.coded.inj)) };
+    ghost octets = { λ s. min s.length 2043 };
+
+    ghost few = { Prim.search rules };
 
     fn octet_count(&self) -> u16 {
         self.length

@@ -1,14 +1,16 @@
 //! Queues of units.
 //!
 //! A queue of units is the numbers of a queue, a table of slips and a store that is cut into slots of 2,048 octets. A
-//! slip and its slot have the same index, so nothing has to be searched, and no octet moves while a unit waits.
+//! slip and its slot have the same index, so nothing has to be searched, and no octet moves while a unit waits. The
+//! caller lends table and store to each call, which tries first whether they fit, so a queue and its memory stay two
+//! values.
 ghost use Rattle.std.specs.Prelude.{◌≡◌, ◌*◌, false, is_ok};
-ghost use Rattle.frame.specs.declared.header.Quality.TheVariants.{SequenceControlled};
 ghost use Rattle.queue.specs.Queue.{Tied};
-ghost use Rattle.unit.specs.Unit.{CopiesOut, Holds, LetsGo, memory_fits, note, slip_octets};
+ghost use Rattle.ring.specs.Ring.{Sound};
+ghost use Rattle.unit.specs.Unit.{CopiesOut, Holds, LetsGo, memory_fits, slip_octets};
 
 use super::fault::UnitFault;
-use super::slip::{Note, Slip};
+use super::slip::Slip;
 use frame::header::Quality;
 use line::memory::lay;
 use queue::queue::Queue;
@@ -19,29 +21,18 @@ pub const LARGEST_UNIT: usize = 2043;
 /// How many octets of the store each slip of the table has.
 pub const SLOT: usize = 2048;
 
-/// The lent memory of a queue of units: a slip for each place, and 2,048 octets for each slip.
+/// The lent memory of a queue of units: a slip for each place, and 2,048 octets for each slip. These are two slices, as
+/// a queue's table holds what is copied in and out, and the octets are copied once each way.
 #[derive(Drop)]
 pub struct Units<'a> {
     pub slips: &'a mut [Slip],
     pub store: &'a mut [u8],
 }
 
-impl Slip {
-    /// The slip of no unit, with which a table is made. A queue never shows it.
-    pub fn blank() -> Slip
-        ensures { note result ≡ record { port = 0; quality = SequenceControlled; length = 0 } }
-    {
-        Slip {
-            port: 0,
-            quality: Quality::SequenceControlled,
-            length: 0,
-        }
-    }
-}
-
 /// Whether the memory is that of a queue of units.
 pub fn fits(queue: &Queue, units: &Units<'_>) -> bool
-    ensures { result ≡ memory_fits queue.now.ring units.now.slips.now units.now.store.now }
+    ensures answer { result ≡ memory_fits queue.now.ring units.now.slips.now units.now.store.now }
+    ensures sound { Sound queue.now.ring }
 {
     units.slips.len() == queue.size() && units.store.len() == SLOT * queue.size()
 }
@@ -62,7 +53,7 @@ pub fn hold(
         return Err(UnitFault::Memory);
     }
     let count = octets.len();
-    if count < 1 || count > LARGEST_UNIT || port > 7 {
+    if !(1..=LARGEST_UNIT).contains(&count) || port > 7 {
         return Err(UnitFault::Unit);
     }
     let index = queue.index(queue.count());
@@ -71,13 +62,9 @@ pub fn hold(
         quality,
         length: count as u16,
     };
-    match queue.add(units.slips, slip) {
-        Ok(count) => {
-            let _ = lay(units.store, SLOT * index, octets);
-            Ok(count)
-        }
-        Err(_) => Err(UnitFault::Full),
-    }
+    let queued = queue.add(units.slips, slip)?;
+    let _ = lay(units.store, SLOT * index, octets);
+    Ok(queued)
 }
 
 /// Copies the unit at a place, counted from 0 at the oldest, out to a buffer of 2,043 octets or more, and answers what
@@ -87,7 +74,7 @@ pub fn copy_unit(
     units: &Units<'_>,
     place: usize,
     buffer: &mut [u8],
-) -> Result<Option<Note>, UnitFault>
+) -> Result<Option<Slip>, UnitFault>
     ensures { CopiesOut queue.now.ring units.now.slips.now units.now.store.now place buffer.old buffer.new result }
 {
     if !fits(queue, units) || buffer.len() < LARGEST_UNIT {
@@ -100,11 +87,7 @@ pub fn copy_unit(
     let slip = units.slips[index];
     let start = SLOT * index;
     let _ = lay(buffer, 0, &units.store[start..start + slip.length as usize]);
-    Ok(Some(Note {
-        port: slip.port,
-        quality: slip.quality,
-        length: slip.length,
-    }))
+    Ok(Some(slip))
 }
 
 /// Lets the first n units go, or all where there are fewer, and answers how many went.
@@ -116,8 +99,5 @@ pub fn free_units(queue: &mut Queue, units: &Units<'_>, n: usize) -> Result<usiz
     if !fits(queue, units) {
         return Err(UnitFault::Memory);
     }
-    match queue.free(units.slips, n) {
-        Ok(gone) => Ok(gone),
-        Err(_) => Err(UnitFault::Memory),
-    }
+    Ok(queue.free(units.slips, n)?)
 }

@@ -4,10 +4,14 @@ use Rattle.queue.proofs.queue.Queue.add.Goals as goal
 
 pub returns : goal.returns
 returns g c =
-    let q = c.args.self.now in
+    let ring = c.self.inside.ring in
     let t = c.args.table.now in
-    record {
-      added = added q t c.args.x _ _ _ (omega arith) (omega arith) (search rules) (search rules) (search rules);
-      tied = added_tied g.T.Octets.octets g.met.T.Octets.few q t c.args.x _ c.longer.result (set t c.index-end.result c.args.x) (omega arith) (omega arith) (search rules) (search rules) (search rules);
+    let sound = c.check_table.ensures.sound in
+    let fit = c.in_ok-check_table.ensures.size in
+    let done = added ring t sound fit c.args.x c.count.result c.longer.result (set t c.index.result c.args.x) (omega arith) (search rules) (search rules) (search rules) in
+    rw (← c.self.view_is)
+    (record {
+      added = done;
+      tied = added_tied ring t sound fit g.T.Octets.octets g.met.T.Octets.few c.args.x _ _ _ _ _ (search rules) done (search rules);
       kept = search rules;
-    }
+    })
