@@ -1,5 +1,5 @@
 -- Octets in lent memory.
-use Rattle.std.specs.Prelude.{ℕ, ◌+◌, ◌-◌, Bool, cond, List, ◌++◌, length, take, drop, nat_le, nat_lt}
+use Rattle.std.specs.Prelude.{ℕ, ◌+◌, Bool, cond, List, ◌++◌, length, take, drop, nat_le}
 
 -- whether so many octets have room from a place on
 abbrev pub room_for : List ℕ → ℕ → List ℕ → Bool
@@ -12,7 +12,3 @@ overlaid store at octets = take at store ++ (octets ++ drop (at + length octets)
 -- the same, where they have room, and nothing changed where not
 abbrev pub laid : List ℕ → ℕ → List ℕ → List ℕ
 laid store at octets = cond (room_for store at octets) (overlaid store at octets) store
-
--- the place that comes k after the first, round a ring of that size
-abbrev pub place : ℕ → ℕ → ℕ → ℕ
-place size first k = cond (nat_lt (first + k) size) (first + k) (first + k - size)

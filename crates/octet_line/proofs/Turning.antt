@@ -2,10 +2,11 @@
 use Rattle.std.proofs.Common.{◌≡◌, ℕ, ◌+◌, ◌-◌, ◌<◌, ◌≤◌, false, leb, List, ◌++◌, length, get_or, take, drop, sym, refl, ap, ◌∙◌, subst, ⊎_elim, arith, rules}
 use Rattle.std.proofs.lemmas.List.{append_assoc, drop-take, take-take, length-drop, length-append, get_or_append_left, get_or-append_right, get_or-drop, get_or-take, length-take-le, take-append-le, take_rest, same_lists, places}
 use Rattle.std.proofs.lemmas.Bool.{cases_lt, le-leb, lt-leb}
-use Rattle.line.specs.Memory.{place, laid}
+use Rattle.line.specs.Memory.{laid}
+use Rattle.ring.specs.Ring.{place}
 use Rattle.octet_line.specs.Ring.{turned, laid_round}
 use Rattle.line.proofs.Laying.{length_laid, laid_room}
-use Rattle.line.proofs.Places.{place_below, place_low, place_high, place_on, place_back}
+use Rattle.ring.proofs.Places.{place_below, place_low, place_high, place_on, place_back}
 
 pub length_turned : (first : ℕ) (r : List ℕ) → first ≤ length r → length (turned first r) ≡ length r
 length_turned first r h = search (rules, places)

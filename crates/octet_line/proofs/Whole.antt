@@ -3,11 +3,11 @@ use Rattle.std.proofs.Common.{◌≡◌, ℕ, suc, ◌+◌, ◌-◌, ◌*◌, �
 use Rattle.std.proofs.lemmas.List.{length-take-le, get_or-take}
 use Rattle.octet_line.specs.declared.ring.OctetLine.{OctetLine}
 use Rattle.line.specs.Line.{Sound, FrameSized}
-use Rattle.line.specs.Memory.{place}
+use Rattle.ring.specs.Ring.{place}
 use Rattle.octet_line.specs.Ring.{turned, told, headed, frames_in, are_frames}
 use Rattle.octet_line.specs.Octets.{ring_of, used_in, waiting_in}
 use Rattle.octet_line.proofs.Frames.{Front, frames_count, frames_framed, frames_short, push, frames_pushed, frames_pop, front_of}
-use Rattle.line.proofs.Places.{place_below}
+use Rattle.ring.proofs.Places.{place_below}
 use Rattle.octet_line.proofs.Turning.{length_turned, ring_read_all, part_of, rest_of}
 
 pub octets_sound : (s : OctetLine) → Sound (waiting_in s)

@@ -1,6 +1,7 @@
 -- Frames end to end in a ring of octets, each behind two octets that tell its length.
 use Rattle.std.specs.Prelude.{ℕ, zero, suc, ◌+◌, ◌-◌, ◌*◌, ◌/◌, ◌%◌, Bool, cond, ◌&&◌, List, [], ◌∷◌, ◌++◌, length, take, drop, Ok, Err, Result, ◌==◌, nat_le, slice_index}
-use Rattle.line.specs.Memory.{laid, place}
+use Rattle.line.specs.Memory.{laid}
+use Rattle.ring.specs.Ring.{place}
 use Rattle.line.specs.declared.fault.LineFault.{LineFault}
 use Rattle.line.specs.declared.fault.LineFault.TheVariants.{Memory, Limit}
 

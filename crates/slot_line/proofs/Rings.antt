@@ -7,9 +7,10 @@ use Rattle.std.proofs.lemmas.List.FromFn.{length-map-range_with_len, get_or-map-
 use Rattle.std.proofs.lemmas.Bool.{cases_lt}
 use Rattle.std.proofs.lemmas.Bool.Decides.{nat_tests}
 use Rattle.line.specs.Line.{FrameSized, Sound}
-use Rattle.line.specs.Memory.{laid, place}
+use Rattle.line.specs.Memory.{laid}
+use Rattle.ring.specs.Ring.{place}
 use Rattle.line.proofs.Laying.{laid_there, laid_before, laid_after, length_laid}
-use Rattle.line.proofs.Places.{place_below, place_other, place_next}
+use Rattle.ring.proofs.Places.{place_below, place_other, place_next}
 use Rattle.slot_line.specs.Ring.{slot, slots, FrameLengths}
 
 -- functions that agree count by count make one list

@@ -1,7 +1,7 @@
 -- Slots in a ring.
 use Rattle.std.specs.Prelude.{ℕ, ◌*◌, ◌<◌, ◌≤◌, cond, ◌&&◌, List, map, take, drop, Ok, Err, Result, ◌==◌, nat_le, slice_index}
 use Rattle.std.specs.List.{range_with_len}
-use Rattle.line.specs.Memory.{place}
+use Rattle.ring.specs.Ring.{place}
 use Rattle.line.specs.declared.fault.LineFault.{LineFault}
 use Rattle.line.specs.declared.fault.LineFault.TheVariants.{Memory, Limit}
 

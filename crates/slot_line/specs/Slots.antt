@@ -1,7 +1,8 @@
 -- What a slot line means, and what its memory holds.
 use Rattle.std.specs.Prelude.{◌≡◌, ℕ, ◌*◌, cond, List, length, is_ok, slice_set}
 use Rattle.line.specs.Line.{Waiting, put_answer}
-use Rattle.line.specs.Memory.{laid, place}
+use Rattle.line.specs.Memory.{laid}
+use Rattle.ring.specs.Ring.{place}
 use Rattle.slot_line.specs.Ring.{slots}
 use Rattle.slot_line.specs.declared.slots.SlotLine.{SlotLine}
 

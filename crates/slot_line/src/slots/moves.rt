@@ -1,6 +1,6 @@
 //! How the marks move.
 ghost use Rattle.std.specs.Prelude.{◌≡◌, ◌+◌, ◌-◌, ◌<◌, ◌≤◌};
-ghost use Rattle.line.specs.Memory.{place};
+ghost use Rattle.ring.specs.Ring.{place};
 
 use super::Marks;
 

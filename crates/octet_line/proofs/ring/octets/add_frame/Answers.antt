@@ -1,5 +1,5 @@
 use Rattle.std.proofs.Common.{◌≡◌, ℕ, ◌+◌, ◌*◌, ◌/◌, ◌%◌, List, [], ◌∷◌, length, sym, ap, ◌∙◌, arith, lit≤}
-use Rattle.line.specs.Memory.{place}
+use Rattle.ring.specs.Ring.{place}
 use Rattle.octet_line.specs.Ring.{laid_round}
 use Rattle.octet_line.proofs.Turning.{ring_add}
 use Rattle.octet_line.proofs.ring.octets.add_frame.Goals as goal

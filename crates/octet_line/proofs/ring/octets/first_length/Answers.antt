@@ -1,6 +1,6 @@
 use Rattle.std.proofs.Common.{◌≡◌, ℕ, ◌+◌, ◌*◌, ◌<◌, length, get_or, sym, ap, ◌∙◌, arith}
-use Rattle.line.specs.Memory.{place}
-use Rattle.line.proofs.Places.{place_low}
+use Rattle.ring.specs.Ring.{place}
+use Rattle.ring.proofs.Places.{place_low}
 use Rattle.octet_line.proofs.Turning.{turned_get}
 use Rattle.octet_line.proofs.ring.octets.first_length.Goals as goal
 

@@ -1,6 +1,6 @@
 use Rattle.std.proofs.Common.{◌≡◌, ◌*◌, ◌≤◌, length, take, refl, ◌∙◌, arith}
 use Rattle.line.proofs.Meaning.{takes_short, takes_oldest}
-use Rattle.line.proofs.Places.{place_below}
+use Rattle.ring.proofs.Places.{place_below}
 use Rattle.line.proofs.Laying.{laid_first}
 use Rattle.octet_line.specs.Ring.{turned, told}
 use Rattle.octet_line.specs.Octets.{ring_of, used_in, waiting_in}
