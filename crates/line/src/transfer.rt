@@ -20,20 +20,19 @@ pub fn admits<L: Line>(line: &L, frame: &[u8]) -> Result<(), LineFault>
     Ok(())
 }
 
-/// Takes the oldest frame from one line and puts it on another. Answers whether there was one. A frame that the
-/// second line refuses has left the first, and is in the buffer.
+/// Takes the oldest frame from one line and puts it on another. Answers how many octets the frame has, which come first
+/// in the buffer, or none where none waited. A frame that the second line refuses has left the first, and is in the
+/// buffer.
 pub fn transfer<A: Line, B: Line>(
     from: &mut A,
     to: &mut B,
     buffer: &mut [u8],
-) -> Result<bool, LineFault>
+) -> Result<Option<usize>, LineFault>
     ensures { Transfers (B.Line.loses to.old) (A.Line.waiting from.old) (A.Line.waiting from.new) (B.Line.waiting to.old) (B.Line.waiting to.new) buffer.old buffer.new result }
 {
-    match from.take(buffer)? {
-        None => Ok(false),
-        Some(count) => {
-            to.put(&buffer[0..count])?;
-            Ok(true)
-        }
-    }
+    let Some(count) = from.take(buffer)? else {
+        return Ok(None);
+    };
+    to.put(&buffer[0..count])?;
+    Ok(Some(count))
 }

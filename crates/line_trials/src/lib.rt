@@ -21,14 +21,9 @@ pub struct Outcome {
 
 // Puts three frames, numbered 1 to 3, as far as they are granted.
 fn put_three<L: Line>(line: &mut L) -> usize {
-    let mut granted = 0usize;
-    for number in 1..4u8 {
-        let frame = [0x8c, 0x05, 0x38, 0x05, number, 0xaa];
-        if line.put(&frame).is_ok() {
-            granted = granted.saturating_add(1);
-        }
-    }
-    granted
+    (1..4u8)
+        .filter(|&number| line.put(&[0x8c, 0x05, 0x38, 0x05, number, 0xaa]).is_ok())
+        .count()
 }
 
 // Moves at most four frames from one line to the other.
@@ -38,8 +33,8 @@ fn move_all<A: Line, B: Line>(
     buffer: &mut [u8],
 ) -> Result<(), LineFault> {
     for _ in 0..4u8 {
-        if !transfer(from, to, buffer)? {
-            return Ok(());
+        if transfer(from, to, buffer)?.is_none() {
+            break;
         }
     }
     Ok(())
