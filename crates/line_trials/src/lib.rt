@@ -72,7 +72,7 @@ fn relay<A: Line + Drop, B: Line + Drop>(
 #[cfg(test)]
 mod tests {
     use super::*;
-    use octet_line::ring::making::{make_octets, try_octets};
+    use octet_line::octets::making::{make_octets, try_octets};
     use slot_line::slots::making::{make_slots, try_slots};
     use std::test::Fail;
 

@@ -1,7 +1,7 @@
 -- An octet line as a whole.
 use Rattle.std.proofs.Common.{◌≡◌, ℕ, suc, ◌+◌, ◌-◌, ◌*◌, ◌<◌, ◌≤◌, true, List, [], ◌∷◌, ◌++◌, length, take, drop, sym, ap, ◌∙◌, add-one, arith}
 use Rattle.std.proofs.lemmas.List.{length-take-le, get_or-take}
-use Rattle.octet_line.specs.declared.ring.OctetLine.{OctetLine}
+use Rattle.octet_line.specs.declared.octets.OctetLine.{OctetLine}
 use Rattle.line.specs.Line.{Sound, FrameSized}
 use Rattle.ring.specs.Ring.{place}
 use Rattle.octet_line.specs.Ring.{turned, told, headed, frames_in, are_frames}

@@ -2,7 +2,7 @@
 use Rattle.std.specs.Prelude.{ℕ, cond, List, take, is_ok}
 use Rattle.line.specs.Line.{Waiting, put_answer}
 use Rattle.octet_line.specs.Ring.{turned, frame_laid, frames_in}
-use Rattle.octet_line.specs.declared.ring.OctetLine.{OctetLine}
+use Rattle.octet_line.specs.declared.octets.OctetLine.{OctetLine}
 
 abbrev pub ring_of : OctetLine → List ℕ
 ring_of s = s.memory.octets.now

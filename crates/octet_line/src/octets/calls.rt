@@ -4,7 +4,7 @@ ghost use Rattle.line.specs.Line.{Puts, Takes};
 ghost use Rattle.octet_line.specs.Octets.{ring_after, ring_of, waiting_in};
 
 use super::OctetLine;
-use super::octets::{add_frame, first_length, read_round};
+use super::round::{add_frame, first_length, read_round};
 use line::fault::LineFault;
 use line::line::Line;
 

@@ -4,7 +4,7 @@ use Rattle.octet_line.specs.Octets.{ring_of, used_in, waiting_in}
 use Rattle.octet_line.specs.Ring.{frame_laid}
 use Rattle.octet_line.proofs.Frames.{frames_count}
 use Rattle.octet_line.proofs.Whole.{room_left, grown}
-use Rattle.octet_line.proofs.ring.calls.OctetLineLine.put.Goals as goal
+use Rattle.octet_line.proofs.octets.calls.OctetLineLine.put.Goals as goal
 
 pub returns-then-span : goal.returns-then-span
 returns-then-span c =

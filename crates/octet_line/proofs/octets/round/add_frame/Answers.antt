@@ -2,7 +2,7 @@ use Rattle.std.proofs.Common.{◌≡◌, ℕ, ◌+◌, ◌*◌, ◌/◌, ◌%◌
 use Rattle.ring.specs.Ring.{place}
 use Rattle.octet_line.specs.Ring.{laid_round}
 use Rattle.octet_line.proofs.Turning.{ring_add}
-use Rattle.octet_line.proofs.ring.octets.add_frame.Goals as goal
+use Rattle.octet_line.proofs.octets.round.add_frame.Goals as goal
 
 pub returns : goal.returns
 returns c =

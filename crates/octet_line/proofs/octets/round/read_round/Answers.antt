@@ -1,5 +1,5 @@
 use Rattle.octet_line.proofs.Turning.{read_then, read_else}
-use Rattle.octet_line.proofs.ring.octets.read_round.Goals as goal
+use Rattle.octet_line.proofs.octets.round.read_round.Goals as goal
 
 pub returns-then-count-ahead : goal.returns-then-count-ahead
 returns-then-count-ahead c = read_then c.args.memory.now.octets.now c.args.buffer.now _ c.args.from c.args.count c.requires.place c.if-count-ahead.true c.lay.ensures.after

@@ -5,7 +5,7 @@ ghost use Rattle.octet_line.specs.Ring.{are_frames, turned};
 pub mod calls;
 pub mod making;
 mod moves;
-mod octets;
+mod round;
 
 /// Which octets are used: `used` of them from `first` on, round the ring, with `count` frames in them.
 #[derive(Clone, Copy)]

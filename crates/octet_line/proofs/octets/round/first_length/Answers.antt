@@ -2,7 +2,7 @@ use Rattle.std.proofs.Common.{◌≡◌, ℕ, ◌+◌, ◌*◌, ◌<◌, length,
 use Rattle.ring.specs.Ring.{place}
 use Rattle.ring.proofs.Places.{place_low}
 use Rattle.octet_line.proofs.Turning.{turned_get}
-use Rattle.octet_line.proofs.ring.octets.first_length.Goals as goal
+use Rattle.octet_line.proofs.octets.round.first_length.Goals as goal
 
 pub returns : goal.returns
 returns c =

@@ -2,7 +2,7 @@ use Rattle.std.proofs.Common.{sym, refl}
 use Rattle.octet_line.specs.Octets.{used_in}
 use Rattle.octet_line.proofs.Frames.{frames_count}
 use Rattle.octet_line.proofs.Whole.{octets_sound}
-use Rattle.octet_line.proofs.ring.calls.OctetLineLine.count.Goals as goal
+use Rattle.octet_line.proofs.octets.calls.OctetLineLine.count.Goals as goal
 
 pub returns : goal.returns
 returns c =

@@ -5,7 +5,7 @@ use Rattle.line.proofs.Laying.{laid_first}
 use Rattle.octet_line.specs.Ring.{turned, told}
 use Rattle.octet_line.specs.Octets.{ring_of, used_in, waiting_in}
 use Rattle.octet_line.proofs.Whole.{octets_sound, ahead, size_is, taken_fits, popped}
-use Rattle.octet_line.proofs.ring.calls.OctetLineLine.take.Goals as goal
+use Rattle.octet_line.proofs.octets.calls.OctetLineLine.take.Goals as goal
 
 pub returns-then-buffer-lt2048 : goal.returns-then-buffer-lt2048
 returns-then-buffer-lt2048 c = record { line = takes_short (waiting_in c.args.self.now) c.args.buffer.now (octets_sound c.args.self.now) c.if-buffer-lt2048.true; memory = refl }
