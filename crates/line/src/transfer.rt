@@ -1,23 +1,30 @@
 //! What can be done with any lines.
 ghost use Rattle.std.specs.Prelude.{◌≡◌};
-ghost use Rattle.line.specs.Line.{put_answer};
+ghost use Rattle.line.specs.Line.{admission, put_answer};
 ghost use Rattle.line.specs.Transfer.{Transfers};
 
 use super::fault::LineFault;
 use super::line::Line;
 
-/// What putting this frame on the line would answer.
-pub fn admits<L: Line>(line: &L, frame: &[u8]) -> Result<(), LineFault>
-    ensures { result ≡ put_answer (L.Line.waiting line.now) frame.now }
+/// What putting this frame answers on a line that is full or not.
+pub fn admission(frame: &[u8], full: bool) -> Result<(), LineFault>
+    ensures { result ≡ admission full frame.now }
 {
     if frame.len() < 5 || frame.len() > 2048 {
         return Err(LineFault::FrameSize);
     }
-    let (waiting, limit) = line.count();
-    if waiting == limit {
+    if full {
         return Err(LineFault::Full);
     }
     Ok(())
+}
+
+/// What putting this frame on the line would answer.
+pub fn admits<L: Line>(line: &L, frame: &[u8]) -> Result<(), LineFault>
+    ensures { result ≡ put_answer (L.Line.waiting line.now) frame.now }
+{
+    let (waiting, limit) = line.count();
+    admission(frame, waiting == limit)
 }
 
 /// Takes the oldest frame from one line and puts it on another. Answers how many octets the frame has, which come first
