@@ -72,6 +72,7 @@ fn relay<A: Line + Drop, B: Line + Drop>(
 #[cfg(test)]
 mod tests {
     use super::*;
+    use octet_line::octets::OctetLine;
     use octet_line::octets::making::{make_octets, try_octets};
     use slot_line::slots::SlotLine;
     use slot_line::slots::making::{make_slots, try_slots};
@@ -135,6 +136,20 @@ mod tests {
             Some(LineFault::Memory)
         );
         let mut line = SlotLine::new(&mut store, &mut lengths, 4)?;
+        line.put(&[0x8c, 0x05, 0x38, 0x05, 7, 0xaa])?;
+        assert_eq!(rt; line.count(), (1, 4));
+        assert_eq!(rt; line.take(&mut buffer)?, Some(6));
+        assert_eq!(rt; buffer[4], 7);
+        assert_eq!(rt; line.count(), (0, 4));
+        Ok(())
+    }
+
+    #[test]
+    fn octets_made_in_one_call(rt: HostRuntime) -> Result<(), Fail> {
+        let mut ring = [0u8; OCTETS];
+        let mut buffer = [0u8; 2048];
+        assert_eq!(rt; OctetLine::new(&mut ring, 3).err(), Some(LineFault::Memory));
+        let mut line = OctetLine::new(&mut ring, 4)?;
         line.put(&[0x8c, 0x05, 0x38, 0x05, 7, 0xaa])?;
         assert_eq!(rt; line.count(), (1, 4));
         assert_eq!(rt; line.take(&mut buffer)?, Some(6));

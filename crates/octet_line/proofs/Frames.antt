@@ -4,7 +4,7 @@ use Rattle.std.specs.List.{AllByRecursion}
 use Rattle.std.proofs.lemmas.List.{length-drop, length-append, get_or_append_left, length-take-le, take_all, take-append-le, drop-append-le, nil_from_length}
 use Rattle.std.proofs.lemmas.Bool.{and_parts, and_from, leb-true, le-leb}
 use Rattle.line.specs.Line.{FrameSized}
-use Rattle.octet_line.specs.Ring.{told, headed, frames_in, are_frames}
+use Rattle.octet_line.specs.Frames.{told, headed, frames_in, are_frames}
 
 -- what is known of the first of some frames
 pub record Front (n : ℕ) (u : List ℕ) : Type 0 where

@@ -1,10 +1,11 @@
 //! Octets round the ring.
-ghost use Rattle.std.specs.Prelude.{◌≡◌, ◌+◌, ◌*◌, ◌<◌, ◌≤◌, ◌++◌, length, take};
+ghost use Rattle.std.specs.Prelude.{◌≡◌, ◌+◌, ◌<◌, ◌≤◌, ◌++◌, length, take, drop};
 ghost use Rattle.line.specs.Memory.{laid};
-ghost use Rattle.octet_line.specs.Ring.{frame_laid, headed, laid_round, told, turned};
+ghost use Rattle.octet_line.specs.Frames.{frame_laid, headed, laid_round};
+ghost use Rattle.ring.specs.Ring.{Sound, grown, index_of, queued};
 
-use super::{Memory, Span};
 use line::memory::lay;
+use ring::Ring;
 
 // Lays octets from a place on, and goes on at the ring's start where they come to its end.
 fn lay_round(ring: &mut [u8], at: usize, octets: &[u8])
@@ -15,54 +16,56 @@ fn lay_round(ring: &mut [u8], at: usize, octets: &[u8])
     let ahead = ring.len() - at;
     let count = octets.len();
     if count <= ahead {
-        let _ = lay(ring, at, octets);
+        lay(ring, at, octets);
     } else {
-        let _ = lay(ring, at, &octets[0..ahead]);
-        let _ = lay(ring, 0, &octets[ahead..count]);
+        lay(ring, at, &octets[0..ahead]);
+        lay(ring, 0, &octets[ahead..count]);
     }
 }
 
-// Lays a frame behind the used octets, after two octets with its length.
-pub(crate) fn add_frame(memory: &mut Memory, span: Span, frame: &[u8])
-    requires room { length memory.old.octets.now ≡ 2050 * span.limit }
-    requires low { 5 ≤ length frame.now }
-    requires short { length frame.now ≤ 2048 }
-    requires fits { span.used + (2 + length frame.now) ≤ 2050 * span.limit }
-    ensures room { length memory.new.octets.now ≡ length memory.old.octets.now }
-    ensures octets { take (span.used + (2 + length frame.now)) (turned span.first memory.new.octets.now) ≡ take span.used (turned span.first memory.old.octets.now) ++ headed frame.now }
-    ensures laid { memory.new.octets.now ≡ frame_laid memory.old.octets.now span.first span.used frame.now }
+// Lays octets behind the used ones, and answers with them the ring in which they are used too.
+fn add(memory: &mut [u8], ring: Ring, octets: &[u8]) -> Ring
+    requires ring { Sound ring }
+    requires room { length memory.old ≡ ring.size }
+    requires some { 1 ≤ length octets.now }
+    requires fits { ring.count + length octets.now ≤ ring.size }
+    ensures ring { result ≡ grown (length octets.now) ring }
+    ensures memory { memory.new ≡ laid_round memory.old (index_of ring ring.count) octets.now }
+    ensures used { queued result memory.new ≡ queued ring memory.old ++ octets.now }
 {
-    let count = frame.len();
-    let head = [(count / 256) as u8, (count % 256) as u8];
-    let a = span.after(span.used);
-    let b = span.after(span.used + 2);
-    lay_round(memory.octets, a, &head);
-    lay_round(memory.octets, b, frame);
+    lay_round(memory, ring.index(ring.count()), octets);
+    ring.longer(octets.len())
 }
 
-// The length of the oldest frame.
-pub(crate) fn first_length(memory: &Memory, span: Span) -> usize
-    requires room { length memory.now.octets.now ≡ 2050 * span.limit }
-    ensures { result ≡ told (turned span.first memory.now.octets.now) }
+// Adds a frame behind the used octets, after two octets with its length, and answers the ring in which they are used.
+pub(crate) fn add_frame(memory: &mut [u8], ring: Ring, frame: &[u8]) -> Ring
+    requires ring { Sound ring }
+    requires room { length memory.old ≡ ring.size }
+    requires some { 1 ≤ length frame.now }
+    requires short { length frame.now ≤ 2048 }
+    requires fits { ring.count + (2 + length frame.now) ≤ ring.size }
+    ensures ring { result ≡ grown (length frame.now) (grown 2 ring) }
+    ensures memory { memory.new ≡ frame_laid memory.old ring frame.now }
+    ensures used { queued result memory.new ≡ queued ring memory.old ++ headed frame.now }
 {
-    let high = span.first;
-    let low = span.after(1);
-    256 * (memory.octets[high] as usize) + memory.octets[low] as usize
+    let length = (frame.len() as u16).to_be_bytes();
+    let ring = add(memory, ring, &length);
+    add(memory, ring, frame)
 }
 
 // Puts so many octets from a place on, round the ring, first into the buffer.
-pub(crate) fn read_round(memory: &Memory, from: usize, count: usize, buffer: &mut [u8])
-    requires place { from < length memory.now.octets.now }
-    requires room { count ≤ length memory.now.octets.now }
+pub(crate) fn read_round(ring: &[u8], from: usize, count: usize, buffer: &mut [u8])
+    requires place { from < length ring.now }
+    requires room { count ≤ length ring.now }
     requires short { count ≤ length buffer.old }
-    ensures { buffer.new ≡ laid buffer.old 0 (take count (turned from memory.now.octets.now)) }
+    ensures { buffer.new ≡ laid buffer.old 0 (take count (drop from (ring.now ++ ring.now))) }
 {
-    let size = memory.octets.len();
+    let size = ring.len();
     let ahead = size - from;
     if count <= ahead {
-        let _ = lay(buffer, 0, &memory.octets[from..from + count]);
+        lay(buffer, 0, &ring[from..from + count]);
     } else {
-        let _ = lay(buffer, 0, &memory.octets[from..size]);
-        let _ = lay(buffer, ahead, &memory.octets[0..count - ahead]);
+        lay(buffer, 0, &ring[from..size]);
+        lay(buffer, ahead, &ring[0..count - ahead]);
     }
 }

@@ -1,26 +1,18 @@
-use Rattle.std.proofs.Common.{◌≡◌, ℕ, ◌+◌, ◌*◌, ◌/◌, ◌%◌, List, [], ◌∷◌, length, sym, ap, ◌∙◌, arith, lit≤}
-use Rattle.ring.specs.Ring.{place}
-use Rattle.octet_line.specs.Ring.{laid_round}
-use Rattle.octet_line.proofs.Turning.{ring_add}
+use Rattle.std.proofs.Common.{◌≡◌, ◌++◌, length, refl, ap, ◌∙◌, append_assoc}
+use Rattle.ring.specs.Ring.{queued, grown}
+use Rattle.octet_line.specs.Frames.{telling}
+use Rattle.octet_line.proofs.Whole.{told_by}
 use Rattle.octet_line.proofs.octets.round.add_frame.Goals as goal
 
 pub returns : goal.returns
 returns c =
-    let span = c.args.span in
     let f = c.args.frame.now in
-    let low = c.requires.low in
-    let k = ring_add c.args.memory.now.octets.now (length f / 256 ∷ length f % 256 ∷ []) f _ _ span.first span.used _ _ _ c.requires.room span.near (omega arith) c.requires.fits (lit≤ tt) c.after-a.ensures c.after-b.ensures c.lay_round.ensures c.lay_round-2.ensures in
-    let r = c.args.memory.now.octets.now in
-    let head = length f / 256 ∷ length f % 256 ∷ [] in
-    let size : 2050 * span.limit ≡ length r = sym c.requires.room in
-    let a : c.after-a.result ≡ place (length r) span.first span.used = c.after-a.ensures ∙ ap (λ (n : ℕ). place n span.first span.used) size in
-    let b : c.after-b.result ≡ place (length r) span.first (span.used + 2) = c.after-b.ensures ∙ ap (λ (n : ℕ). place n span.first (span.used + 2)) size in
+    let head : c.to_be_bytes-length.result ≡ telling (length f) = c.to_be_bytes-length.ensures ∙ told_by (length f) c.requires.short in
+    let one = c.add-ring.ensures in
+    let two = c.add.ensures in
+    let longer : c.add-ring.result ≡ grown 2 c.args.ring = rw head at one.ring in
     record {
-      room = k.0;
-      octets = k.1;
-      laid =
-          c.lay_round-2.ensures
-          ∙ ap (λ (z : List ℕ). laid_round z c.after-b.result f) c.lay_round.ensures
-          ∙ ap (λ (i : ℕ). laid_round (laid_round r i head) c.after-b.result f) a
-          ∙ ap (λ (i : ℕ). laid_round (laid_round r (place (length r) span.first span.used) head) i f) b;
+      ring = two.ring ∙ ap (grown (length f)) longer;
+      memory = two.memory ∙ rw (one.memory, head, longer) refl;
+      used = two.used ∙ ap (λ u. u ++ f) (rw head at one.used) ∙ append_assoc (queued c.args.ring c.args.memory.now) (telling (length f)) f;
     }

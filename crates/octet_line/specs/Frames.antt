@@ -1,13 +1,7 @@
 -- Frames end to end in a ring of octets, each behind two octets that tell its length.
-use Rattle.std.specs.Prelude.{ℕ, zero, suc, ◌+◌, ◌-◌, ◌*◌, ◌/◌, ◌%◌, Bool, cond, ◌&&◌, List, [], ◌∷◌, ◌++◌, length, take, drop, Ok, Err, Result, ◌==◌, nat_le, slice_index}
+use Rattle.std.specs.Prelude.{ℕ, zero, suc, ◌+◌, ◌-◌, ◌*◌, ◌/◌, ◌%◌, Bool, cond, ◌&&◌, List, [], ◌∷◌, ◌++◌, length, take, drop, nat_le, slice_index}
 use Rattle.line.specs.Memory.{laid}
-use Rattle.ring.specs.Ring.{place}
-use Rattle.line.specs.declared.fault.LineFault.{LineFault}
-use Rattle.line.specs.declared.fault.LineFault.TheVariants.{Memory, Limit}
-
--- a ring read from a place on, once round
-abbrev pub turned : ℕ → List ℕ → List ℕ
-turned first ring = drop first ring ++ take first ring
+use Rattle.ring.specs.Ring.{Numbers, index_of}
 
 -- octets laid from a place on, and what is past the ring's end at its start
 abbrev pub laid_round : List ℕ → ℕ → List ℕ → List ℕ
@@ -17,13 +11,17 @@ laid_round ring at o = cond (nat_le (length o) (length ring - at)) (laid ring at
 abbrev pub told : List ℕ → ℕ
 told u = 256 * slice_index u 0 + slice_index u 1
 
+-- the two octets that tell a length
+abbrev pub telling : ℕ → List ℕ
+telling n = n / 256 ∷ n % 256 ∷ []
+
 -- a frame behind its two length octets
 abbrev pub headed : List ℕ → List ℕ
-headed f = length f / 256 ∷ (length f % 256 ∷ f)
+headed f = telling (length f) ++ f
 
 -- a ring after a frame was laid behind the used octets
-abbrev pub frame_laid : List ℕ → ℕ → ℕ → List ℕ → List ℕ
-frame_laid ring first used f = laid_round (laid_round ring (place (length ring) first used) (length f / 256 ∷ length f % 256 ∷ [])) (place (length ring) first (used + 2)) f
+abbrev pub frame_laid : List ℕ → Numbers → List ℕ → List ℕ
+frame_laid ring g f = laid_round (laid_round ring (index_of g g.count) (telling (length f))) (index_of g (g.count + 2)) f
 
 -- so many frames, read off octets
 abbrev pub frames_in : ℕ → List ℕ → List (List ℕ)
@@ -34,7 +32,3 @@ frames_in (suc n) u = take (told u) (drop 2 u) ∷ frames_in n (drop (2 + told u
 abbrev pub are_frames : ℕ → List ℕ → Bool
 are_frames zero u = nat_le (length u) 0
 are_frames (suc n) u = (nat_le 5 (told u) && nat_le (told u) 2048) && (nat_le (2 + told u) (length u) && are_frames n (drop (2 + told u) u))
-
--- what the making of a line over so many octets answers: the size first, then the limit
-abbrev pub making_answer : ℕ → ℕ → Result (Unit {0}) LineFault
-making_answer octets limit = cond (octets == 2050 * limit) (cond (nat_le 1 limit && nat_le limit 4096) (Ok tt) (Err Limit)) (Err Memory)
