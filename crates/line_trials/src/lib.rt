@@ -76,6 +76,7 @@ mod tests {
     use octet_line::octets::making::{make_octets, try_octets};
     use slot_line::slots::SlotLine;
     use slot_line::slots::making::{make_slots, try_slots};
+    use std::process::Abort;
     use std::test::Fail;
 
     const SLOTS: usize = 8192;
@@ -126,16 +127,9 @@ mod tests {
         Ok(())
     }
 
-    #[test]
-    fn slots_made_in_one_call(rt: HostRuntime) -> Result<(), Fail> {
-        let mut store = [0u8; SLOTS];
-        let mut lengths = [0u16; 4];
+    // One frame through an empty line of four.
+    fn there_and_back<L: Line + Drop>(rt: &impl Abort, mut line: L) -> Result<(), Fail> {
         let mut buffer = [0u8; 2048];
-        assert_eq!(rt;
-            SlotLine::new(&mut store, &mut lengths, 3).err(),
-            Some(LineFault::Memory)
-        );
-        let mut line = SlotLine::new(&mut store, &mut lengths, 4)?;
         line.put(&[0x8c, 0x05, 0x38, 0x05, 7, 0xaa])?;
         assert_eq!(rt; line.count(), (1, 4));
         assert_eq!(rt; line.take(&mut buffer)?, Some(6));
@@ -145,17 +139,22 @@ mod tests {
     }
 
     #[test]
+    fn slots_made_in_one_call(rt: HostRuntime) -> Result<(), Fail> {
+        let mut store = [0u8; SLOTS];
+        let mut lengths = [0u16; 4];
+        let mut buffer = [0u8; 2048];
+        assert_eq!(rt;
+            SlotLine::new(&mut store, &mut lengths, 3).err(),
+            Some(LineFault::Memory)
+        );
+        there_and_back(&rt, SlotLine::new(&mut store, &mut lengths, 4)?)
+    }
+
+    #[test]
     fn octets_made_in_one_call(rt: HostRuntime) -> Result<(), Fail> {
         let mut ring = [0u8; OCTETS];
-        let mut buffer = [0u8; 2048];
         assert_eq!(rt; OctetLine::new(&mut ring, 3).err(), Some(LineFault::Memory));
-        let mut line = OctetLine::new(&mut ring, 4)?;
-        line.put(&[0x8c, 0x05, 0x38, 0x05, 7, 0xaa])?;
-        assert_eq!(rt; line.count(), (1, 4));
-        assert_eq!(rt; line.take(&mut buffer)?, Some(6));
-        assert_eq!(rt; buffer[4], 7);
-        assert_eq!(rt; line.count(), (0, 4));
-        Ok(())
+        there_and_back(&rt, OctetLine::new(&mut ring, 4)?)
     }
 
     #[test]
