@@ -1,58 +1,37 @@
 -- Octets laid round a ring, behind the used ones.
-use Rattle.std.proofs.Common.{◌≡◌, ℕ, ◌+◌, ◌-◌, ◌<◌, ◌≤◌, List, ◌++◌, length, get_or, take, drop, sym, refl, ap, ◌∙◌, subst, ⊎_elim, arith, rules}
-use Rattle.std.proofs.lemmas.List.{length-append, get_or_append_left, get_or-append_right, get_or-drop, get_or-take, same_lists, places}
-use Rattle.std.proofs.lemmas.Bool.{cases_lt, le-leb, lt-leb}
+use Rattle.std.proofs.Common.{◌≡◌, ℕ, ◌+◌, ◌-◌, ◌<◌, ◌≤◌, List, ◌++◌, length, get_or, take, drop, sym, ap, ◌∙◌, subst, ⊎_elim, zero-add, arith, rules}
+use Rattle.std.proofs.lemmas.List.{length-append, get_or_append_left, get_or-append_right, take_all, drop_all, same_lists, places}
+use Rattle.std.proofs.lemmas.Bool.{cases_lt}
 use Rattle.line.specs.Memory.{laid}
-use Rattle.line.proofs.Laying.{length_laid, laid_room}
+use Rattle.line.proofs.Laying.{laid_room}
 use Rattle.ring.specs.Ring.{Numbers, Sound, place, index_of, grown, queued}
 use Rattle.ring.proofs.Places.{place_low, place_high, place_on, place_back}
 use Rattle.ring.proofs.Rings.{index_within, counted, element}
 use Rattle.octet_line.specs.Frames.{laid_round}
 
-pub laid_in : (s o : List ℕ) (a j d : ℕ) → a + length o ≤ length s → a ≤ j → j < a + length o → get_or (laid s a o) j d ≡ get_or o (j - a) d
-laid_in s o a j d h l m = ap (λ (z : List ℕ). get_or z j d) (laid_room s o a h) ∙ grind (arith, places)
-
-pub laid_left : (s o : List ℕ) (a j d : ℕ) → a + length o ≤ length s → j < a → get_or (laid s a o) j d ≡ get_or s j d
-laid_left s o a j d h l = ap (λ (z : List ℕ). get_or z j d) (laid_room s o a h) ∙ grind (arith, places)
-
-pub laid_right : (s o : List ℕ) (a j d : ℕ) → a + length o ≤ length s → a + length o ≤ j → get_or (laid s a o) j d ≡ get_or s j d
-laid_right s o a j d h l = ap (λ (z : List ℕ). get_or z j d) (laid_room s o a h) ∙ grind (arith, places)
-
-pub length_laid_round : (r o : List ℕ) (a : ℕ) → a < length r → length o ≤ length r → length (laid_round r a o) ≡ length r
-length_laid_round r o a h l =
-    ⊎_elim
-    (λ (m : length r - a < length o). rw (lt-leb (length o) (length r - a) m) (length_laid (laid r a (take (length r - a) o)) (drop (length r - a) o) 0 (search (rules, places)) ∙ length_laid r (take (length r - a) o) a (search (rules, places))))
-    (λ (m : length o ≤ length r - a). rw (le-leb (length o) (length r - a) m) (length_laid r o a (omega arith)))
-    (cases_lt (length r - a) (length o))
-
 module _ (r o : List ℕ) (a : ℕ) (h : a < length r) (l : length o ≤ length r) where
+  round_is : laid_round r a o ≡ drop (length r - a) o ++ drop (length (drop (length r - a) o)) (take a r ++ (take (length r - a) o ++ drop (a + length (take (length r - a) o)) r))
+  round_is =
+      ap (λ z. laid z 0 (drop (length r - a) o)) (laid_room r (take (length r - a) o) a (search (rules, places)))
+      ∙ laid_room (take a r ++ (take (length r - a) o ++ drop (a + length (take (length r - a) o)) r)) (drop (length r - a) o) 0 (search (rules, places))
+      ∙ ap (λ j. drop (length r - a) o ++ drop j (take a r ++ (take (length r - a) o ++ drop (a + length (take (length r - a) o)) r))) (zero-add (length (drop (length r - a) o)))
+
+  pub length_laid_round : length (laid_round r a o) ≡ length r
+  length_laid_round = rw round_is (search (rules, places))
+
   pub round_in : (i d : ℕ) → i < length o → get_or (laid_round r a o) (place (length r) a i) d ≡ get_or o i d
-  round_in i d m =
-      ⊎_elim
-      (λ (x : length r - a < length o). rw (lt-leb (length o) (length r - a) x)
+  round_in i d m = rw round_is
       (⊎_elim
-      (λ (y : i < length r - a). rw (place_low (length r) a i (omega arith)) (
-      laid_right (laid r a (take (length r - a) o)) (drop (length r - a) o) 0 (a + i) d (rw (length_laid r (take (length r - a) o) a (search (rules, places))) (search (rules, places))) (search (rules, places))
-      ∙ (laid_in r (take (length r - a) o) a (a + i) d (search (rules, places)) (omega arith) (search (rules, places)) ∙ (let e : a + i - a ≡ i = omega arith in rw e (get_or-take (length r - a) o i d y)))))
-      (λ (y : length r - a ≤ i). rw (place_high (length r) a i (omega arith)) (
-      laid_in (laid r a (take (length r - a) o)) (drop (length r - a) o) 0 (a + i - length r) d (rw (length_laid r (take (length r - a) o) a (search (rules, places))) (search (rules, places))) (omega arith) (search (rules, places))
-      ∙ (get_or-drop (length r - a) o (a + i - length r - 0) d ∙ (let e : length r - a + (a + i - length r - 0) ≡ i = omega arith in rw e refl))))
-      (cases_lt i (length r - a))))
-      (λ (x : length o ≤ length r - a). rw (le-leb (length o) (length r - a) x, place_low (length r) a i (omega arith)) (laid_in r o a (a + i) d (omega arith) (omega arith) (omega arith) ∙ (let e : a + i - a ≡ i = omega arith in rw e refl)))
-      (cases_lt (length r - a) (length o))
+      (λ (y : i < length r - a). rw (place_low (length r) a i (omega arith)) (grind (arith, places)))
+      (λ (y : length r - a ≤ i). rw (place_high (length r) a i (omega arith)) (grind (arith, places)))
+      (cases_lt i (length r - a)))
 
   pub round_out : (i d : ℕ) → length o ≤ i → i < length r → get_or (laid_round r a o) (place (length r) a i) d ≡ get_or r (place (length r) a i) d
-  round_out i d m n =
-      ⊎_elim
-      (λ (x : length r - a < length o). rw (lt-leb (length o) (length r - a) x, place_high (length r) a i (omega arith)) (
-      laid_right (laid r a (take (length r - a) o)) (drop (length r - a) o) 0 (a + i - length r) d (rw (length_laid r (take (length r - a) o) a (search (rules, places))) (search (rules, places))) (search (rules, places))
-      ∙ laid_left r (take (length r - a) o) a (a + i - length r) d (search (rules, places)) (omega arith)))
-      (λ (x : length o ≤ length r - a). rw (le-leb (length o) (length r - a) x) (
-      ⊎_elim
-      (λ (y : a + i < length r). rw (place_low (length r) a i y) (laid_right r o a (a + i) d (omega arith) (omega arith)))
-      (λ (y : length r ≤ a + i). rw (place_high (length r) a i y) (laid_left r o a (a + i - length r) d (omega arith) (omega arith)))
-      (cases_lt (a + i) (length r))))
-      (cases_lt (length r - a) (length o))
+  round_out i d m n = rw round_is
+      (⊎_elim
+      (λ (y : i < length r - a). rw (place_low (length r) a i (omega arith), drop_all (length r - a) o (omega arith), take_all (length r - a) o (omega arith)) (grind (arith, places)))
+      (λ (y : length r - a ≤ i). rw (place_high (length r) a i (omega arith)) (grind (arith, places)))
+      (cases_lt i (length r - a)))
 
 -- octets laid behind the used ones are used after them
 pub queued_more : (g : Numbers) (t o : List ℕ) → Sound g → length t ≡ g.size → 1 ≤ length o → g.count + length o ≤ g.size → queued (grown (length o) g) (laid_round t (index_of g g.count) o) ≡ queued g t ++ o

@@ -1,11 +1,11 @@
 -- Frames end to end in a ring of octets, each behind two octets that tell its length.
-use Rattle.std.specs.Prelude.{ℕ, zero, suc, ◌+◌, ◌-◌, ◌*◌, ◌/◌, ◌%◌, Bool, cond, ◌&&◌, List, [], ◌∷◌, ◌++◌, length, take, drop, nat_le, slice_index}
+use Rattle.std.specs.Prelude.{ℕ, zero, suc, ◌+◌, ◌-◌, ◌*◌, ◌/◌, ◌%◌, Bool, ◌&&◌, List, [], ◌∷◌, ◌++◌, length, take, drop, nat_le, slice_index}
 use Rattle.line.specs.Memory.{laid}
 use Rattle.ring.specs.Ring.{Numbers, index_of}
 
--- octets laid from a place on, and what is past the ring's end at its start
+-- octets laid from a place on, and at the ring's start what is past its end
 abbrev pub laid_round : List ℕ → ℕ → List ℕ → List ℕ
-laid_round ring at o = cond (nat_le (length o) (length ring - at)) (laid ring at o) (laid (laid ring at (take (length ring - at) o)) 0 (drop (length ring - at) o))
+laid_round ring at o = laid (laid ring at (take (length ring - at) o)) 0 (drop (length ring - at) o)
 
 -- the length that the first two octets tell
 abbrev pub told : List ℕ → ℕ

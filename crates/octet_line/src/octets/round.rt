@@ -13,14 +13,9 @@ fn lay_round(ring: &mut [u8], at: usize, octets: &[u8])
     requires room { length octets.now ≤ length ring.old }
     ensures { ring.new ≡ laid_round ring.old at octets.now }
 {
-    let ahead = ring.len() - at;
-    let count = octets.len();
-    if count <= ahead {
-        lay(ring, at, octets);
-    } else {
-        lay(ring, at, &octets[0..ahead]);
-        lay(ring, 0, &octets[ahead..count]);
-    }
+    let (ahead, round) = octets.split_at(octets.len().min(ring.len() - at));
+    lay(ring, at, ahead);
+    lay(ring, 0, round);
 }
 
 // Lays octets behind the used ones, and answers with them the ring in which they are used too.
@@ -54,18 +49,14 @@ pub(crate) fn add_frame(memory: &mut [u8], ring: Ring, frame: &[u8]) -> Ring
 }
 
 // Puts so many octets from a place on, round the ring, first into the buffer.
+// No twin of `lay_round`: there the cut is in what is laid, here in what is read, and they share no step but `lay`.
 pub(crate) fn read_round(ring: &[u8], from: usize, count: usize, buffer: &mut [u8])
     requires place { from < length ring.now }
     requires room { count ≤ length ring.now }
     requires short { count ≤ length buffer.old }
     ensures { buffer.new ≡ laid buffer.old 0 (take count (drop from (ring.now ++ ring.now))) }
 {
-    let size = ring.len();
-    let ahead = size - from;
-    if count <= ahead {
-        lay(buffer, 0, &ring[from..from + count]);
-    } else {
-        lay(buffer, 0, &ring[from..size]);
-        lay(buffer, ahead, &ring[0..count - ahead]);
-    }
+    let ahead = count.min(ring.len() - from);
+    lay(buffer, 0, &ring[from..from + ahead]);
+    lay(buffer, ahead, &ring[..count - ahead]);
 }
