@@ -1,22 +1,14 @@
 -- What taking a frame from one line and putting it on another does to both.
 use Rattle.std.specs.Prelude.{◌≡◌, ℕ, Bool, true, false, cond, List, [], ◌∷◌, length, drop, Some, None, Ok, Err, Option, Result}
+use Rattle.std.specs.Result.{result_and}
 use Rattle.line.specs.declared.fault.LineFault.{LineFault}
 use Rattle.line.specs.declared.fault.LineFault.TheVariants.{Memory}
-use Rattle.line.specs.Line.{Waiting, Puts, roomy, filled}
-
--- the answer without its value, and that of putting so many octets as the transfer's
-abbrev pub granted : Result (Option ℕ) LineFault → Result (Unit {0}) LineFault
-granted (Ok _) = Ok tt
-granted (Err e) = Err e
-
-abbrev pub moved : ℕ → Result (Unit {0}) LineFault → Result (Option ℕ) LineFault
-moved n (Ok _) = Ok (Some n)
-moved n (Err e) = Err e
+use Rattle.line.specs.Line.{Waiting, Puts, put_answer, roomy, filled}
 
 -- what becomes of the oldest frame: the second line puts it, as it puts any frame; without one nothing is put
 abbrev pub Passes : (List ℕ → Bool → Type 0) → List (List ℕ) → Waiting → Waiting → Result (Option ℕ) LineFault → Type 0
 Passes may [] to to' r = (to' ≡ to) × (r ≡ Ok None)
-Passes may (f ∷ fs) to to' r = Puts (may f) to to' f (granted r) × (r ≡ moved (length f) (granted r))
+Passes may (f ∷ fs) to to' r = Puts (may f) to to' f (put_answer to f) × (r ≡ result_and (put_answer to f) (Ok (Some (length f))))
 
 -- with a buffer that is too small nothing is taken
 abbrev pub PassesBy : (List ℕ → Bool → Type 0) → Bool → List (List ℕ) → Waiting → Waiting → Result (Option ℕ) LineFault → Type 0
