@@ -1,5 +1,6 @@
-use Rattle.std.proofs.Common.{◌≡◌, ◌+◌, min, arith}
+use Rattle.std.proofs.Common.{◌≡◌, ◌+◌, arith}
 use Rattle.line.proofs.Meaning.{takes_short}
+use Rattle.ring.specs.Ring.{without}
 use Rattle.octet_line.proofs.Whole.{octets_sound, some_waits, fits, still_less, takes}
 use Rattle.octet_line.proofs.octets.calls.OctetLineLine.take.Goals as goal
 
@@ -11,8 +12,9 @@ invariant_of-self c =
     let n = c.in-Some.count in
     let is = rw (← c.self.view_is) at c.in-Some.ensures.answer in
     let some = some_waits _ n _ is in
-    let all : min (2 + n) c.self.inside.ring.count ≡ 2 + n = omega (arith, fits _ c.self.invariant some n is) in
-    rw (c.shorter-self-inside.ensures, all) (still_less _ c.self.invariant some n is)
+    let enough = fits _ c.self.invariant some n is in
+    let gone : c.shorter-self-inside.result ≡ without (2 + n) c.self.inside.ring = grind arith in
+    rw gone (still_less _ c.self.invariant some n is)
 
 pub returns-clause-line : goal.returns-clause-line
 returns-clause-line c =
@@ -20,5 +22,6 @@ returns-clause-line c =
     let is = rw (← c.self.view_is) at c.in-Some.ensures.answer in
     let octets = rw (← c.self.view_is) at c.in-Some.ensures.octets in
     let some = some_waits _ n _ is in
-    let all : min (2 + n) c.self.inside.ring.count ≡ 2 + n = omega (arith, fits _ c.self.invariant some n is) in
-    rw (← c.self.view_is, c.shorter-self-inside.ensures, all) (takes _ c.self.invariant some n is _ _ c.if-buffer-lt2048.false octets)
+    let enough = fits _ c.self.invariant some n is in
+    let gone : c.shorter-self-inside.result ≡ without (2 + n) c.self.inside.ring = grind arith in
+    rw (← c.self.view_is, gone) (takes _ c.self.invariant some n is _ _ c.if-buffer-lt2048.false octets)

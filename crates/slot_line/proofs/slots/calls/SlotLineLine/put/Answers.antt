@@ -1,5 +1,5 @@
-use Rattle.std.proofs.Common.{◌≡◌, ◌-◌, ◌<◌, ◌≤◌, min, length, sym, ap, ◌∙◌, refl, inl, arith}
-use Rattle.ring.specs.Ring.{index_of}
+use Rattle.std.proofs.Common.{◌≡◌, ◌<◌, ◌≤◌, length, sym, ◌∙◌, refl, inl, arith}
+use Rattle.ring.specs.Ring.{index_of, grown}
 use Rattle.slot_line.proofs.Frames.{pushed, slots_count}
 use Rattle.slot_line.proofs.slots.calls.SlotLineLine.put.Goals as goal
 
@@ -10,11 +10,11 @@ returns-clause-line c =
     let slot = c.index-slot.result in
     let short : length f ≤ 2048 = grind arith in
     let few : g.count < g.size = grind arith in
-    let one : min 1 (g.size - g.count) ≡ 1 = omega arith in
-    let last : min c.count-2.result g.size ≡ g.count = omega arith in
+    let longer : c.longer-self-inside.result ≡ grown 1 g = grind arith in
+    let next : slot ≡ index_of g g.count = grind arith in
     rw (← c.self.view_is)
     record {
       limit = grind arith;
       answer = sym c.in_ok-admission.was ∙ c.admission.ensures ∙ rw (c.count.ensures, c.size.ensures, slots_count c.self.inside.store.now c.self.inside.lengths.now g) refl;
-      list = inl (refl, rw (c.lay.ensures.after, c.longer-self-inside.ensures, one) (pushed _ c.self.invariant f slot short few (c.index-slot.ensures.at ∙ ap (index_of g) last)));
+      list = inl (refl, rw (c.lay.ensures.after, longer) (pushed _ c.self.invariant f slot short few next));
     }
