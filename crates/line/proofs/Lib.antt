@@ -1,3 +1,2 @@
 pub mod Meaning
 pub mod Laying
-pub mod Places

@@ -28,9 +28,13 @@ pub record Sound (w : Waiting) : Type 0 where
 abbrev pub is_full : Waiting → Bool
 is_full w = length w.frames == w.limit
 
+-- what putting a frame answers on a line that is full or not
+abbrev pub admission : Bool → List ℕ → Result (Unit {0}) LineFault
+admission full f = cond (frame_sized f) (cond full (Err Full) (Ok tt)) (Err FrameSize)
+
 -- what putting answers: a frame that is lost is answered as one that is kept
 abbrev pub put_answer : Waiting → List ℕ → Result (Unit {0}) LineFault
-put_answer w f = cond (frame_sized f) (cond (is_full w) (Err Full) (Ok tt)) (Err FrameSize)
+put_answer w f = admission (is_full w) f
 
 -- the list after putting: a frame that is granted comes last, or is lost where the line may lose it
 abbrev pub Joins : (Bool → Type 0) → List (List ℕ) → List ℕ → List (List ℕ) → Result (Unit {0}) LineFault → Type 0

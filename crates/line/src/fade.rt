@@ -9,7 +9,7 @@ use super::transfer::admits;
 
 /// Any line, of which the next frames are lost, as many as the layer was last told. It has the list and the limit of
 /// the line below.
-#[derive(Drop)]
+#[derive(Drop, Clone, PartialEq, Eq, Debug)]
 pub struct Fade<L> {
     below: L,
     lose: u64,

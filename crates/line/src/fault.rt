@@ -4,29 +4,24 @@ ghost use Rattle.line.specs.Fault.{line_fault};
 use refusal::{Fault, Layer};
 use std::fmt;
 
-/// Why a line, or the making of one, refuses.
+/// Why a line, or the making of one, refuses, and under which number.
 #[derive(Clone, Copy, PartialEq, Eq, Debug)]
 pub enum LineFault {
     /// A frame of fewer than 5 or more than 2,048 octets.
-    FrameSize,
+    FrameSize = 1,
     /// As many frames wait as the limit.
-    Full,
+    Full = 17,
     /// A buffer of fewer than 2,048 octets, or memory of another size than the line is made over.
-    Memory,
+    Memory = 18,
     /// A limit that is not 1 to 4,096.
-    Limit,
+    Limit = 19,
 }
 
 impl Fault for LineFault {
     ghost told = { line_fault };
 
     fn number(&self) -> u8 {
-        match self {
-            LineFault::FrameSize => 1,
-            LineFault::Full => 17,
-            LineFault::Memory => 18,
-            LineFault::Limit => 19,
-        }
+        *self as u8
     }
 
     fn layer(&self) -> Layer {

@@ -1,8 +1,24 @@
 //! Octets in lent memory.
 ghost use Rattle.std.specs.Prelude.{◌≡◌};
-ghost use Rattle.line.specs.Memory.{laid, room_for};
+ghost use Rattle.line.specs.Memory.{laid, memory_answer, room_for};
 
-/// Lays octets over memory from a place on, and answers whether they had room there. Without room nothing changes.
+use super::fault::LineFault;
+
+/// Tries whether memory of so many octets is that of a line which keeps `limit` frames in `each` octets.
+pub fn try_memory(octets: usize, each: usize, limit: usize) -> Result<(), LineFault>
+    ensures { result ≡ memory_answer octets each limit }
+{
+    if limit.checked_mul(each) != Some(octets) {
+        return Err(LineFault::Memory);
+    }
+    if !(1..=4096).contains(&limit) {
+        return Err(LineFault::Limit);
+    }
+    Ok(())
+}
+
+/// Lays octets over memory from a place on, and answers whether they had room there, which many a caller knows and may
+/// let go. Without room nothing changes.
 pub fn lay(store: &mut [u8], at: usize, octets: &[u8]) -> bool
     ensures answer { result ≡ room_for store.old at octets.now }
     ensures after { store.new ≡ laid store.old at octets.now }

@@ -21,14 +21,9 @@ pub struct Outcome {
 
 // Puts three frames, numbered 1 to 3, as far as they are granted.
 fn put_three<L: Line>(line: &mut L) -> usize {
-    let mut granted = 0usize;
-    for number in 1..4u8 {
-        let frame = [0x8c, 0x05, 0x38, 0x05, number, 0xaa];
-        if line.put(&frame).is_ok() {
-            granted = granted.saturating_add(1);
-        }
-    }
-    granted
+    (1..4u8)
+        .filter(|&number| line.put(&[0x8c, 0x05, 0x38, 0x05, number, 0xaa]).is_ok())
+        .count()
 }
 
 // Moves at most four frames from one line to the other.
@@ -38,8 +33,8 @@ fn move_all<A: Line, B: Line>(
     buffer: &mut [u8],
 ) -> Result<(), LineFault> {
     for _ in 0..4u8 {
-        if !transfer(from, to, buffer)? {
-            return Ok(());
+        if transfer(from, to, buffer)?.is_none() {
+            break;
         }
     }
     Ok(())
@@ -77,8 +72,11 @@ fn relay<A: Line + Drop, B: Line + Drop>(
 #[cfg(test)]
 mod tests {
     use super::*;
-    use octet_line::ring::making::{make_octets, try_octets};
+    use octet_line::octets::OctetLine;
+    use octet_line::octets::making::{make_octets, try_octets};
+    use slot_line::slots::SlotLine;
     use slot_line::slots::making::{make_slots, try_slots};
+    use std::process::Abort;
     use std::test::Fail;
 
     const SLOTS: usize = 8192;
@@ -127,6 +125,36 @@ mod tests {
             }
         );
         Ok(())
+    }
+
+    // One frame through an empty line of four.
+    fn there_and_back<L: Line + Drop>(rt: &impl Abort, mut line: L) -> Result<(), Fail> {
+        let mut buffer = [0u8; 2048];
+        line.put(&[0x8c, 0x05, 0x38, 0x05, 7, 0xaa])?;
+        assert_eq!(rt; line.count(), (1, 4));
+        assert_eq!(rt; line.take(&mut buffer)?, Some(6));
+        assert_eq!(rt; buffer[4], 7);
+        assert_eq!(rt; line.count(), (0, 4));
+        Ok(())
+    }
+
+    #[test]
+    fn slots_made_in_one_call(rt: HostRuntime) -> Result<(), Fail> {
+        let mut store = [0u8; SLOTS];
+        let mut lengths = [0u16; 4];
+        let mut buffer = [0u8; 2048];
+        assert_eq!(rt;
+            SlotLine::new(&mut store, &mut lengths, 3).err(),
+            Some(LineFault::Memory)
+        );
+        there_and_back(&rt, SlotLine::new(&mut store, &mut lengths, 4)?)
+    }
+
+    #[test]
+    fn octets_made_in_one_call(rt: HostRuntime) -> Result<(), Fail> {
+        let mut ring = [0u8; OCTETS];
+        assert_eq!(rt; OctetLine::new(&mut ring, 3).err(), Some(LineFault::Memory));
+        there_and_back(&rt, OctetLine::new(&mut ring, 4)?)
     }
 
     #[test]

@@ -1,10 +1,11 @@
 -- Frames end to end, each behind its length.
-use Rattle.std.proofs.Common.{◌≡◌, ℕ, zero, suc, ◌+◌, ◌-◌, ◌*◌, ◌/◌, ◌%◌, ◌≤◌, true, ◌&&◌, leb, List, [], ◌∷◌, ◌++◌, length, take, drop, sym, refl, ap, ◌∙◌, subst, arith}
+use Rattle.std.proofs.Common.{◌≡◌, ℕ, zero, suc, ◌+◌, ◌-◌, ◌*◌, ◌/◌, ◌%◌, ◌≤◌, true, List, [], ◌∷◌, ◌++◌, length, take, drop, refl, ap, arith}
 use Rattle.std.specs.List.{AllByRecursion}
 use Rattle.std.proofs.lemmas.List.{length-drop, length-append, get_or_append_left, length-take-le, take_all, take-append-le, drop-append-le, nil_from_length}
-use Rattle.std.proofs.lemmas.Bool.{and_parts, and_from, leb-true, le-leb}
+use Rattle.std.proofs.lemmas.Bool.{leb-true, le-leb}
+use Rattle.std.proofs.lemmas.Bool.Decides.{nat_tests}
 use Rattle.line.specs.Line.{FrameSized}
-use Rattle.octet_line.specs.Ring.{told, headed, frames_in, are_frames}
+use Rattle.octet_line.specs.Frames.{told, headed, frames_in, are_frames}
 
 -- what is known of the first of some frames
 pub record Front (n : ℕ) (u : List ℕ) : Type 0 where
@@ -14,17 +15,10 @@ pub record Front (n : ℕ) (u : List ℕ) : Type 0 where
   pub rest : are_frames n (drop (2 + told u) u) ≡ true
 
 pub front : (n : ℕ) (u : List ℕ) → are_frames (suc n) u ≡ true → Front n u
-front n u w =
-    let a = and_parts (leb 5 (told u) && leb (told u) 2048) (leb (2 + told u) (length u) && are_frames n (drop (2 + told u) u)) w in
-    let b = and_parts (leb 5 (told u)) (leb (told u) 2048) a.0 in
-    let c = and_parts (leb (2 + told u) (length u)) (are_frames n (drop (2 + told u) u)) a.1 in
-    record { low = leb-true 5 (told u) b.0; high = leb-true (told u) 2048 b.1; fits = leb-true (2 + told u) (length u) c.0; rest = c.1 }
+front n u w = record { low = grind (arith, nat_tests); high = grind (arith, nat_tests); fits = grind (arith, nat_tests); rest = grind (arith, nat_tests) }
 
 pub back : (n : ℕ) (u : List ℕ) → Front n u → are_frames (suc n) u ≡ true
-back n u w =
-    and_from (leb 5 (told u) && leb (told u) 2048) (leb (2 + told u) (length u) && are_frames n (drop (2 + told u) u))
-    (and_from (leb 5 (told u)) (leb (told u) 2048) (le-leb 5 (told u) w.low) (le-leb (told u) 2048 w.high))
-    (and_from (leb (2 + told u) (length u)) (are_frames n (drop (2 + told u) u)) (le-leb (2 + told u) (length u) w.fits) w.rest)
+back n u w = grind (arith, nat_tests)
 
 size_append : (u e : List ℕ) → 2 ≤ length u → told (u ++ e) ≡ told u
 size_append u e h = rw (get_or_append_left u e 0 0 (omega arith), get_or_append_left u e 0 1 (omega arith))
@@ -44,10 +38,7 @@ push (suc n) u f w s =
     let ds : drop (2 + told u) (u ++ headed f) ≡ drop (2 + told u) u ++ headed f = drop-append-le (2 + told u) u (headed f) fits in
     let t : take (told u) (drop 2 u ++ headed f) ≡ take (told u) (drop 2 u) = take-append-le (told u) (drop 2 u) (headed f) (rw length-drop (omega arith)) in
     let ih = push n (drop (2 + told u) u) f a.rest s in
-    subst (λ (m : ℕ). take m (drop 2 (u ++ headed f)) ∷ frames_in (suc n) (drop (2 + m) (u ++ headed f)) ≡ take (told u) (drop 2 u) ∷ (frames_in n (drop (2 + told u) u) ++ f ∷ [])) (sym e)
-    (subst (λ (x : List ℕ). take (told u) x ∷ frames_in (suc n) (drop (2 + told u) (u ++ headed f)) ≡ take (told u) (drop 2 u) ∷ (frames_in n (drop (2 + told u) u) ++ f ∷ [])) (sym d2)
-    (subst (λ (x : List ℕ). take (told u) (drop 2 u ++ headed f) ∷ frames_in (suc n) x ≡ take (told u) (drop 2 u) ∷ (frames_in n (drop (2 + told u) u) ++ f ∷ [])) (sym ds)
-    (ap (λ (x : List ℕ). x ∷ frames_in (suc n) (drop (2 + told u) u ++ headed f)) t ∙ ap (λ (x : List (List ℕ)). take (told u) (drop 2 u) ∷ x) ih)))
+    rw (e, d2, ds, t, ih) refl
 
 pub frames_pushed : (n : ℕ) (u f : List ℕ) → are_frames n u ≡ true → FrameSized f → are_frames (suc n) (u ++ headed f) ≡ true
 frames_pushed zero u f w s =

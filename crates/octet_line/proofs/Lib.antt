@@ -1,3 +1,3 @@
 pub mod Frames
-pub mod Turning
+pub mod Round
 pub mod Whole

@@ -1,80 +1,111 @@
 -- An octet line as a whole.
-use Rattle.std.proofs.Common.{◌≡◌, ℕ, suc, ◌+◌, ◌-◌, ◌*◌, ◌<◌, ◌≤◌, true, List, [], ◌∷◌, ◌++◌, length, take, drop, sym, ap, ◌∙◌, add-one, arith}
-use Rattle.std.proofs.lemmas.List.{length-take-le, get_or-take}
-use Rattle.octet_line.specs.declared.ring.OctetLine.{OctetLine}
-use Rattle.line.specs.Line.{Sound, FrameSized}
-use Rattle.line.specs.Memory.{place}
-use Rattle.octet_line.specs.Ring.{turned, told, headed, frames_in, are_frames}
-use Rattle.octet_line.specs.Octets.{ring_of, used_in, waiting_in}
+use Rattle.std.proofs.Common.{◌≡◌, ℕ, zero, suc, ◌+◌, ◌-◌, ◌*◌, ◌/◌, ◌%◌, ◌<◌, ◌≤◌, min, List, [], ◌∷◌, ◌++◌, length, get_or, take, drop, Some, Ok, sym, refl, ap, ◌∙◌, add-one, arith, w16}
+use Rattle.std.specs.Int.{to_be_bytes}
+use Rattle.std.proofs.lemmas.List.{take-take, length-take-le, length-drop}
+use Rattle.std.proofs.lemmas.Bool.Decides.{nat_tests}
+use Rattle.line.specs.Line.{Sound, FrameSized, Takes, oldest, filled}
+use Rattle.line.specs.Memory.{laid}
+use Rattle.line.proofs.Laying.{laid_first}
+use Rattle.line.proofs.Meaning.{takes_oldest}
+use Rattle.ring.specs.Ring.{Numbers, queued, index_of, grown, without}
+use Rattle.ring.proofs.Rings.{counted, element, queued_without, without_sound}
+use Rattle.octet_line.specs.Frames.{told, headed, telling, frames_in}
+use Rattle.octet_line.specs.Octets.{Octets, IsOctetLine, used_in, waiting_in}
 use Rattle.octet_line.proofs.Frames.{Front, frames_count, frames_framed, frames_short, push, frames_pushed, frames_pop, front_of}
-use Rattle.line.proofs.Places.{place_below}
-use Rattle.octet_line.proofs.Turning.{length_turned, ring_read_all, part_of, rest_of}
 
-pub octets_sound : (s : OctetLine) → Sound (waiting_in s)
-octets_sound s =
-    let at = s.span in let few = at.few in
-    record { some = at.some; most = at.most; room = omega (arith, frames_count at.count (used_in s)); each = frames_framed at.count (used_in s) s.whole }
+module _ (s : Octets) (h : IsOctetLine s) where
+  pub octets_sound : Sound (waiting_in s)
+  octets_sound =
+      let within = h.ring.within in let size = h.size in let few = h.few in
+      record { some = omega arith; most = h.most; room = omega (arith, frames_count s.count (used_in s)); each = frames_framed s.count (used_in s) h.whole }
 
-pub used_length : (s : OctetLine) → length (used_in s) ≡ s.span.used
-used_length s =
-    let room = s.room in let near = s.span.near in let fits = s.span.fits in
-    let e : length (turned s.span.first (ring_of s)) ≡ length (ring_of s) = length_turned s.span.first (ring_of s) (omega arith) in
-    length-take-le s.span.used (turned s.span.first (ring_of s)) (omega arith)
+  pub used_length : length (used_in s) ≡ s.ring.count
+  used_length = counted s.ring s.octets h.ring h.room
 
--- there is room for one more
-pub room_left : (s : OctetLine) → s.span.count < s.span.limit → s.span.used + 2050 ≤ 2050 * s.span.limit
-room_left s h = let e = used_length s in let w = frames_short s.span.count (used_in s) s.whole in omega arith
+  -- there is room for one more
+  pub room_left : s.count < s.limit → s.ring.count + 2050 ≤ s.ring.size
+  room_left l = let size = h.size in let e = used_length in let w = frames_short s.count (used_in s) h.whole in omega arith
 
-pub record Grown (s : OctetLine) (f r' : List ℕ) (first' used' count' limit' : ℕ) : Type 0 where
-  pub room : length r' ≡ 2050 * limit'
-  pub whole : are_frames count' (take used' (turned first' r')) ≡ true
-  pub frames : frames_in count' (take used' (turned first' r')) ≡ frames_in s.span.count (used_in s) ++ f ∷ []
+  -- one frame more
+  module _ (f t : List ℕ) (g : Numbers) (sized : FrameSized f) (few : s.count < s.limit) (room : length t ≡ s.ring.size) (g_is : g ≡ grown (length f) (grown 2 s.ring)) (used : queued g t ≡ used_in s ++ headed f) where
+    pub pushed : frames_in (s.count + 1) (queued g t) ≡ frames_in s.count (used_in s) ++ f ∷ []
+    pushed = rw (used, add-one s.count) (push s.count (used_in s) f h.whole sized)
 
-pub grown : (s : OctetLine) (f r' : List ℕ) (first' used' count' limit' : ℕ) → FrameSized f → length r' ≡ length (ring_of s)
-    → take (s.span.used + (2 + length f)) (turned s.span.first r') ≡ used_in s ++ headed f
-    → first' ≡ s.span.first → used' ≡ s.span.used + (2 + length f) → count' ≡ s.span.count + 1 → limit' ≡ s.span.limit → Grown s f r' first' used' count' limit'
-grown s f r' first' used' count' limit' ok size octets first-is used-is count-is limit_is =
-    let u : take used' (turned first' r') ≡ used_in s ++ headed f = rw (first-is, used-is) octets in
-    let n : count' ≡ suc s.span.count = count-is ∙ add-one s.span.count in
-    record { room = rw limit_is (size ∙ s.room); whole = rw (u, n) (frames_pushed s.span.count (used_in s) f s.whole ok); frames = rw (u, n) (push s.span.count (used_in s) f s.whole ok) }
+    pub still : IsOctetLine (record { octets = t; ring = g; count = s.count + 1; limit = s.limit })
+    still =
+        let left = room_left few in
+        record {
+          ring = rw g_is record { within = h.ring.within; most = omega (arith, left, sized.1); small = h.ring.small };
+          most = h.most;
+          few = omega (arith, few);
+          size = rw g_is h.size;
+          room = rw g_is room;
+          whole = rw (used, add-one s.count) (frames_pushed s.count (used_in s) f h.whole sized);
+        }
 
--- the first frame
-module _ (s : OctetLine) (some : 1 ≤ s.span.count) where
-  pub ahead : Front (s.span.count - 1) (used_in s)
-  ahead = front_of s.span.count (used_in s) some s.whole
+  -- the first frame
+  module _ (some : 1 ≤ s.count) where
+    pub ahead : Front (s.count - 1) (used_in s)
+    ahead = front_of s.count (used_in s) some h.whole
 
-  pub size_is : told (turned s.span.first (ring_of s)) ≡ told (used_in s)
-  size_is =
-      let e = used_length s in let low = ahead.low in let fits = ahead.fits in
-      sym (rw (get_or-take s.span.used (turned s.span.first (ring_of s)) 0 0 (omega arith), get_or-take s.span.used (turned s.span.first (ring_of s)) 1 0 (omega arith)))
+    pub size_is : (n : ℕ) → n ≡ 256 * get_or s.octets s.ring.first 0 + get_or s.octets (index_of s.ring 1) 0 → n ≡ told (used_in s)
+    size_is n e =
+        let low = ahead.low in let fits = ahead.fits in let long = used_length in let within = h.ring.within in
+        let zeroth : index_of s.ring 0 ≡ s.ring.first = grind (arith, nat_tests) in
+        let high = element s.ring s.octets h.ring h.room 0 0 (omega arith) ∙ ap (λ i. get_or s.octets i 0) zeroth in
+        let next = element s.ring s.octets h.ring h.room 1 0 (omega arith) in
+        omega arith
 
-  pub taken_fits : 2 + told (used_in s) ≤ s.span.used
-  taken_fits = let e = used_length s in let fits = ahead.fits in omega arith
+    length_first : length (take (told (used_in s)) (drop 2 (used_in s))) ≡ told (used_in s)
+    length_first = let fits = ahead.fits in length-take-le (told (used_in s)) (drop 2 (used_in s)) (rw length-drop (omega arith))
 
-pub record Popped (s : OctetLine) (n from first' used' count' limit' : ℕ) : Type 0 where
-  pub room : length (ring_of s) ≡ 2050 * limit'
-  pub whole : are_frames count' (take used' (turned first' (ring_of s))) ≡ true
-  pub frames : frames_in s.span.count (used_in s) ≡ take n (turned from (ring_of s)) ∷ frames_in count' (take used' (turned first' (ring_of s)))
-  pub size : n ≡ length (take n (turned from (ring_of s)))
+    popped : frames_in s.count (used_in s) ≡ take (told (used_in s)) (drop 2 (used_in s)) ∷ frames_in (s.count - 1) (drop (2 + told (used_in s)) (used_in s))
+    popped = frames_pop s.count (used_in s) some
 
-pub popped : (s : OctetLine) (n from first' used' count' limit' : ℕ) → 1 ≤ s.span.count → n ≡ told (turned s.span.first (ring_of s)) → from ≡ place (2050 * s.span.limit) s.span.first 2
-    → first' ≡ place (2050 * s.span.limit) s.span.first (2 + n) → used' ≡ s.span.used - (2 + n) → count' ≡ s.span.count - 1 → limit' ≡ s.span.limit → Popped s n from first' used' count' limit'
-popped s n from first' used' count' limit' some n-is from_is first-is used-is count-is limit_is =
-    let r = ring_of s in let first = s.span.first in let used = s.span.used in
-    let size : length r ≡ 2050 * s.span.limit = s.room in
-    let near : first < length r = omega (arith, s.span.near) in
-    let within : used ≤ length r = omega (arith, s.span.fits) in
-    let m : n ≡ told (used_in s) = n-is ∙ size_is s some in
-    let fits : 2 + n ≤ used = omega (arith, taken_fits s some) in
-    let from' : from ≡ place (length r) first 2 = from_is ∙ ap (λ (z : ℕ). place z first 2) (sym size) in
-    let first'' : first' ≡ place (length r) first (2 + n) = first-is ∙ ap (λ (z : ℕ). place z first (2 + n)) (sym size) in
-    let frame : take n (turned from r) ≡ take n (drop 2 (used_in s)) = rw from' (ring_read_all r first 2 n near (omega arith) ∙ sym (part_of (turned first r) used 2 n (omega arith))) in
-    let rest : take used' (turned first' r) ≡ drop (2 + n) (used_in s) = rw (used-is, first'') (ring_read_all r first (2 + n) (used - (2 + n)) near (omega arith) ∙ rest_of (turned first r) used (2 + n) fits) in
-    let rest' : drop (2 + n) (used_in s) ≡ drop (2 + told (used_in s)) (used_in s) = ap (λ (z : ℕ). drop (2 + z) (used_in s)) m in
-    let frame' : take n (drop 2 (used_in s)) ≡ take (told (used_in s)) (drop 2 (used_in s)) = ap (λ (z : ℕ). take z (drop 2 (used_in s))) m in
-    record {
-      room = size ∙ ap (λ (z : ℕ). 2050 * z) (sym limit_is);
-      whole = rw (rest, rest', count-is) (ahead s some).rest;
-      frames = rw (rest, rest', count-is, frame, frame') (frames_pop s.span.count (used_in s) some);
-      size = sym (length-take-le n (turned from r) (let q : length (turned from r) ≡ length r = length_turned from r (omega (arith, place_below (length r) first 2 near (omega arith))) in omega arith));
-    }
+    pub oldest_is : (n : ℕ) → n ≡ told (used_in s) → Some n ≡ oldest (frames_in s.count (used_in s))
+    oldest_is n e = rw popped (ap Some (e ∙ sym length_first))
+
+    pub filled_is : (n from : ℕ) (b d : List ℕ) → n ≡ told (used_in s) → from ≡ index_of s.ring 2 → 2048 ≤ length b → d ≡ laid b 0 (take n (drop from (s.octets ++ s.octets))) → d ≡ filled (frames_in s.count (used_in s)) b
+    filled_is n from b d e at room is =
+        let fits = ahead.fits in let low = ahead.low in let high = ahead.high in let long = used_length in
+        let two : min 2 s.ring.count ≡ 2 = omega arith in
+        let rest = rw two at (queued_without s.ring s.octets 2 h.ring h.room) in
+        let frame : take n (drop from (s.octets ++ s.octets)) ≡ take (told (used_in s)) (drop 2 (used_in s)) =
+        rw at (sym (take-take n (s.ring.count - 2) (drop (index_of s.ring 2) (s.octets ++ s.octets)) (omega arith)) ∙ ap (take n) rest ∙ ap (λ m. take m (drop 2 (used_in s))) e) in
+        rw popped (is ∙ rw frame (laid_first b (take (told (used_in s)) (drop 2 (used_in s))) (omega (arith, length_first))))
+
+    -- the oldest frame gone
+    module _ (n : ℕ) (is : Some n ≡ oldest (frames_in s.count (used_in s))) where
+      pub first_is : n ≡ told (used_in s)
+      first_is = let e : Some n ≡ Some (length (take (told (used_in s)) (drop 2 (used_in s)))) = rw popped at is in (cc) ∙ length_first
+
+      pub fits : 2 + n ≤ s.ring.count
+      fits = let e = first_is in let fits = ahead.fits in let long = used_length in omega arith
+
+      rest : queued (without (2 + n) s.ring) s.octets ≡ drop (2 + told (used_in s)) (used_in s)
+      rest =
+          let e : min (2 + n) s.ring.count ≡ 2 + n = omega (arith, fits) in
+          rw e at (queued_without s.ring s.octets (2 + n) h.ring h.room) ∙ ap (λ m. drop (2 + m) (used_in s)) first_is
+
+      pub still_less : IsOctetLine (record { octets = s.octets; ring = without (2 + n) s.ring; count = s.count - 1; limit = s.limit })
+      still_less = record {
+        ring = without_sound s.ring (2 + n) h.ring fits;
+        most = h.most;
+        few = let few = h.few in omega arith;
+        size = h.size;
+        room = h.room;
+        whole = rw rest ahead.rest;
+      }
+
+      pub takes : (b d : List ℕ) → 2048 ≤ length b → d ≡ filled (frames_in s.count (used_in s)) b
+          → Takes (waiting_in s) (waiting_in (record { octets = s.octets; ring = without (2 + n) s.ring; count = s.count - 1; limit = s.limit })) b d (Ok (Some n))
+      takes b d room octets = takes_oldest _ _ b d _ _ n octets_sound room popped (rw rest refl) refl (rw popped at octets) (first_is ∙ sym length_first)
+
+-- a frame waits where there is an oldest
+pub some_waits : (m n : ℕ) (u : List ℕ) → Some n ≡ oldest (frames_in m u) → 1 ≤ m
+some_waits zero n u e = cc
+some_waits (suc m) n u e = omega arith
+
+-- the octets that tell a length
+pub told_by : (n : ℕ) → n ≤ 2048 → to_be_bytes w16 n ≡ telling n
+told_by n l = let e : n / 256 % 256 ≡ n / 256 = omega arith in rw e refl

@@ -3,4 +3,4 @@
 //! It never loses a frame. A frame that comes to the ring's end goes on at its start, so no octet is wasted or moved.
 #![tactic(auto)]
 
-pub mod ring;
+pub mod octets;

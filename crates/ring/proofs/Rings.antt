@@ -15,11 +15,11 @@ pub index_within : (g : Numbers) (k : ℕ) → Sound g → k ≤ g.size → inde
 index_within g k s h = grind (arith, nat_tests)
 
 -- two places have two indices
-apart : (g : Numbers) (j k : ℕ) → Sound g → j < k → k < g.size → index_of g j ≢ index_of g k
+pub apart : (g : Numbers) (j k : ℕ) → Sound g → j < k → k < g.size → index_of g j ≢ index_of g k
 apart g j k s h l = λ e. grind (arith, nat_tests)
 
 -- a place after the first n are gone
-shifted : (g : Numbers) (n k : ℕ) → Sound g → n + k ≤ g.size → index_of (without n g) k ≡ index_of g (n + k)
+pub shifted : (g : Numbers) (n k : ℕ) → Sound g → n + k ≤ g.size → index_of (without n g) k ≡ index_of g (n + k)
 shifted g n k s h = grind (arith, nat_tests)
 
 pub without_sound : (g : Numbers) (n : ℕ) → Sound g → n ≤ g.count → Sound (without n g)

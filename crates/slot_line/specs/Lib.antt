@@ -1,2 +1,1 @@
-pub mod Ring
 pub mod Slots

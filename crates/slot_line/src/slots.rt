@@ -1,36 +1,24 @@
-//! The memory and the marks of a slot line.
-ghost use Rattle.std.specs.Prelude.{◌≡◌, ℕ, ◌*◌, ◌<◌, ◌≤◌, length};
-ghost use Rattle.slot_line.specs.Ring.{FrameLengths};
-
+//! The memory of a slot line, and which slots of it are used.
 pub mod calls;
 pub mod making;
-mod moves;
 
-/// Which slots are used: `count` of them from `first` on, of `limit` in a ring.
-#[derive(Clone, Copy)]
-pub struct Marks {
-    first: usize,
-    count: usize,
-    limit: usize,
-    ghost some: { 1 ≤ limit },
-    ghost most: { limit ≤ 4096 },
-    ghost near: { first < limit },
-    ghost few: { count ≤ limit },
-}
+use ring::Ring;
+use std::marker::Model;
 
-/// The lent memory: the slots, end to end, and the length of the frame in each.
-#[derive(Drop)]
-pub struct Memory<'a> {
-    store: &'a mut [u8],
-    lengths: &'a mut [u16],
-}
-
-/// A line over slots.
+/// A line over slots: the slots, end to end, the length of the frame in each, and which of them are used.
 #[derive(Drop)]
 pub struct SlotLine<'a> {
-    memory: Memory<'a>,
-    marks: Marks,
-    ghost room: { length memory.store.now ≡ 2048 * marks.limit },
-    ghost table: { length memory.lengths.now ≡ marks.limit },
-    ghost sizes: { FrameLengths memory.lengths.now marks.first marks.count marks.limit },
+    store: &'a mut [u8],
+    lengths: &'a mut [u16],
+    ring: Ring,
+}
+
+impl<'a> Model for SlotLine<'a> {
+    ghost use Rattle.slot_line.specs.Slots.{Slots, IsSlotLine};
+
+    ghost Value = { Slots };
+
+    ghost view = { λ s. record { store = s.store.now; lengths = s.lengths.now; ring = s.ring } };
+
+    ghost invariant = { λ s. IsSlotLine (record { store = s.store.now; lengths = s.lengths.now; ring = s.ring }) };
 }
