@@ -1,3 +1,3 @@
-pub mod Fronts
 pub mod Kept
+pub mod Fronts
 pub mod Trips

@@ -1,7 +1,7 @@
 -- A directive survives both ways through its octets.
 use Rattle.std.proofs.Common.{◌≡◌, ℕ, ◌-◌, ◌/◌, ◌^◌, ◌<◌, Bool, true, false, cond, eqb, List, [], ◌∷◌, length, get_or, take, drop, IfOk, Some, None, Ok, Err, Option, Result, sym, refl, ap, ◌∙◌, arith}
 use Rattle.std.proofs.lemmas.List.{take_all, length-replicate}
-use Rattle.std.proofs.lemmas.Bool.{le-leb, eq-eqb, eqb-true}
+use Rattle.std.proofs.lemmas.Bool.{eq-eqb, eqb-true}
 use Rattle.std.proofs.lemmas.Bool.Decides.{nat_tests}
 use Rattle.bits.specs.Codec.{carry, encoding}
 use Rattle.bits.specs.Layout.{total, cut, join, fits, octets, number}
@@ -15,7 +15,7 @@ use Rattle.directive.specs.declared.directive.Directive.{Directive}
 use Rattle.directive.specs.declared.directive.Directive.TheVariants as directive
 use Rattle.directive.specs.declared.fault.SpduFault.{SpduFault}
 use Rattle.directive.specs.declared.fault.SpduFault.TheVariants as fault
-use Rattle.directive.proofs.Fronts.{front_named, named_ok}
+use Rattle.directive.proofs.Fronts.{through, front_judged, named_ok}
 use Rattle.directive.proofs.Kept.{code, directive_back, fields_kept, name_kept}
 
 -- a layout is as many octets as its directive has
@@ -50,10 +50,6 @@ some_octet name.ReportRequest w = omega arith
 some_octet name.SetVr w = omega arith
 some_octet name.SourceId w = omega arith
 
-through : (o : List ℕ) (n : Name) (d : Directive) (r : Result (Unit {0}) SpduFault) → whole o (Some n) ≡ Ok d → carry (carry r (λ _. Ok (Some n))) (whole o) ≡ carry r (λ _. Ok d)
-through o n d (Ok u) e = e
-through o n d (Err e) _ = refl
-
 -- what reading answers at a directive's own octets
 pub own_octets : (d : Directive) → directive_fits d ≡ true → read_directive (directive_octets d) ≡ carry (judged 0 (rules_of (name_for d)) (fields_for d)) (λ _. Ok d)
 own_octets d h =
@@ -68,8 +64,7 @@ own_octets d h =
     let first : Some n ≡ name_of (get_or o 0 0 / 32) = sym (ap name_of (first_octet n w ∙ ap (λ fs. get_or fs 0 0) fields ∙ code_first d) ∙ name_back n) in
     let values : fields_in n o ≡ fields_for d = ap (cut (layout rules)) again ∙ fields in
     let at_front : front 0 o ≡ carry (judged 0 rules (fields_for d)) (λ _. Ok (Some n)) =
-    front_named 0 o (Some n) (some_octet n w) first
-    ∙ ap (λ t. cond t (carry (judged 0 rules (fields_in n (take (size_of n) o))) (λ _. Ok (Some n))) (Err (fault.Cut 0))) (le-leb (size_of n) (length o) (omega (arith, size)))
+    front_judged 0 o n (some_octet n w) first (omega (arith, size))
     ∙ ap (λ p. carry (judged 0 rules (fields_in n p)) (λ _. Ok (Some n))) (take_all (size_of n) o (omega (arith, size)))
     ∙ ap (λ fs. carry (judged 0 rules fs) (λ _. Ok (Some n))) values
     in
@@ -78,7 +73,7 @@ own_octets d h =
     ∙ ap (λ fs. Ok (directive_of n fs)) values
     ∙ ap Ok (directive_back d)
     in
-    ap (λ r. carry r (whole o)) at_front ∙ through o n d (judged 0 rules (fields_for d)) all
+    ap (λ r. carry r (whole o)) at_front ∙ through (judged 0 rules (fields_for d)) (Some n) (whole o) ∙ ap (λ r. carry (judged 0 rules (fields_for d)) (λ _. r)) all
 
 answers_ok : (d : Directive) (r : Result (Unit {0}) SpduFault) → ((e : SpduFault) → carry r (λ _. Ok d) ≡ Err e → ⊥) → carry r (λ _. Ok d) ≡ Ok d
 answers_ok d (Ok u) h = refl
@@ -101,22 +96,22 @@ record Taken (o : List ℕ) (d : Directive) : Type 0 where
   is : d ≡ directive_of name (fields_in name o)
 
 whole_ok : (o : List ℕ) (k : Option Name) (d : Directive) → whole o k ≡ Ok d → (n : Name) × ((k ≡ Some n) × ((size_of n ≡ length o) × (d ≡ directive_of n (fields_in n o))))
-whole_ok o None d e = absurd (let z : ◌≡◌ {A = ℕ} 0 1 = cc in omega arith)
+whole_ok o None d e = cc
 whole_ok o (Some n) d e = (n, (refl, fit (eqb (size_of n) (length o)) refl e))
   where
     fit : (t : Bool) → eqb (size_of n) (length o) ≡ t → cond t (Ok (directive_of n (fields_in n o))) (Err fault.Length) ≡ Ok d → (size_of n ≡ length o) × (d ≡ directive_of n (fields_in n o))
     fit true q r = (eqb-true (size_of n) (length o) q, cc)
-    fit false q r = absurd (let z : ◌≡◌ {A = ℕ} 0 1 = cc in omega arith)
+    fit false q r = cc
 
 taken_at : (o : List ℕ) (r : Result (Option Name) SpduFault) (d : Directive) → front 0 o ≡ r → carry r (whole o) ≡ Ok d → Taken o d
-taken_at o (Err e) d f h = absurd (let z : ◌≡◌ {A = ℕ} 0 1 = cc in omega arith)
+taken_at o (Err e) d f h = cc
 taken_at [] (Ok k) d f h =
     let w = whole_ok [] k d h in
-    absurd (let z : ◌≡◌ {A = ℕ} 0 1 = (let same : ◌≡◌ {A = Result (Option Name) SpduFault} (Ok None) (Ok (Some w.0)) = f ∙ ap Ok w.1.0 in cc) in omega arith)
+    cc (f, w.1.0)
 taken_at (x ∷ o) (Ok k) d f h =
     let w = whole_ok (x ∷ o) k d h in
     let n = w.0 in
-    let g = named_ok 0 (x ∷ o) (name_of (x / 32)) n (f ∙ ap Ok w.1.0) in
+    let g = named_ok (x ∷ o) (name_of (x / 32)) n (f ∙ ap Ok w.1.0) in
     record {
       name = n;
       first = g.name;

@@ -9,3 +9,4 @@ pub mod directive;
 pub mod fault;
 pub mod link;
 pub mod rate;
+pub mod reserved;
