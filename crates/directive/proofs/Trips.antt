@@ -1,11 +1,10 @@
 -- A directive survives both ways through its octets.
-use Rattle.std.proofs.Common.{◌≡◌, ℕ, ◌-◌, ◌/◌, ◌^◌, ◌<◌, Bool, true, false, cond, eqb, List, [], ◌∷◌, length, get_or, take, drop, IfOk, Some, None, Ok, Err, Option, Result, sym, refl, ap, ◌∙◌, arith}
+use Rattle.std.proofs.Common.{◌≡◌, ℕ, ◌/◌, ◌^◌, ◌<◌, Bool, true, false, cond, eqb, List, [], ◌∷◌, length, get_or, IfSome, IfOk, Some, None, Ok, Err, Option, Result, sym, refl, ap, ◌∙◌, arith}
 use Rattle.std.proofs.lemmas.List.{take_all, length-replicate}
 use Rattle.std.proofs.lemmas.Bool.{eq-eqb, eqb-true}
 use Rattle.std.proofs.lemmas.Bool.Decides.{nat_tests}
 use Rattle.bits.specs.Codec.{carry, encoding}
 use Rattle.bits.specs.Layout.{total, cut, join, fits, octets, number}
-use Rattle.bits.proofs.Codecs.{granted}
 use Rattle.bits.proofs.Layouts.{join_below, cut_undoes_join, join_undoes_cut, cut_fits, length_cut, number_cut, cut_number, number_octets, first_bits}
 use Rattle.directive.specs.Rule.{layout, judged}
 use Rattle.directive.specs.Directive.{name_of, rules_of, size_of, fields_in, front, whole, read_directive, directive_of, name_for, fields_for, directive_fits, directive_word, directive_octets, encoded_directive}
@@ -75,16 +74,17 @@ own_octets d h =
     in
     ap (λ r. carry r (whole o)) at_front ∙ through (judged 0 rules (fields_for d)) (Some n) (whole o) ∙ ap (λ r. carry (judged 0 rules (fields_for d)) (λ _. r)) all
 
-answers_ok : (d : Directive) (r : Result (Unit {0}) SpduFault) → ((e : SpduFault) → carry r (λ _. Ok d) ≡ Err e → ⊥) → carry r (λ _. Ok d) ≡ Ok d
-answers_ok d (Ok u) h = refl
-answers_ok d (Err e) h = absurd (h e refl)
+-- reading a directive's own octets makes it, unless it refuses them
+pub own_word : (d : Directive) (r : Option ℕ) → r ≡ cond (directive_fits d) (Some (directive_word d)) None → IfSome r (λ w. IfOk (read_directive (cut (octets (size_of (name_for d))) w)) (λ v. v ≡ d))
+own_word d r e = rw e (by (directive_fits d) refl)
+  where
+    judges : (j : Result (Unit {0}) SpduFault) → IfOk (carry j (λ _. Ok d)) (λ v. v ≡ d)
+    judges (Ok u) = refl
+    judges (Err x) = tt
 
--- reading undoes writing
-pub reading_undoes : (d : Directive) (o : List ℕ) → encoded_directive d ≡ Ok o → read_directive o ≡ Ok d
-reading_undoes d o h =
-    let g = granted fault.TooWide (directive_fits d) (directive_octets d) (read_directive (directive_octets d)) o h in
-    let own = own_octets d g.fits in
-    ap read_directive (sym g.same) ∙ own ∙ answers_ok d (judged 0 (rules_of (name_for d)) (fields_for d)) (λ e q. g.readable e (own ∙ q))
+    by : (t : Bool) → directive_fits d ≡ t → IfSome (cond t (Some (directive_word d)) None) (λ w. IfOk (read_directive (cut (octets (size_of (name_for d))) w)) (λ v. v ≡ d))
+    by true q = rw (own_octets d q) (judges (judged 0 (rules_of (name_for d)) (fields_for d)))
+    by false q = tt
 
 -- what a directive that was read says of its octets
 record Taken (o : List ℕ) (d : Directive) : Type 0 where
@@ -156,13 +156,3 @@ writing_undoes o d t r =
 pub undone : (o : List ℕ) (r : Result Directive SpduFault) → ((i : ℕ) → get_or o i 0 < 256) → r ≡ read_directive o → IfOk r (λ d. encoded_directive d ≡ Ok o)
 undone o (Ok d) t e = writing_undoes o d t (sym e)
 undone o (Err x) t e = tt
-
--- the last octets of a word are a directive's own
-pub own_slice : (d : Directive) (w : ℕ) (all : List ℕ) (size : ℕ) → w ≡ directive_word d → all ≡ cut (octets 16) w → size ≡ size_of (name_for d) → take (16 - (16 - size)) (drop (16 - size) all) ≡ directive_octets d
-own_slice d w all size ew ea es = rw (es, ea, ew) (last (name_for d) (directive_word d))
-  where
-    last : (n : Name) (w : ℕ) → take (16 - (16 - size_of n)) (drop (16 - size_of n) (cut (octets 16) w)) ≡ cut (octets (size_of n)) w
-    last name.LinkEstablishment w = refl
-    last name.ReportRequest w = refl
-    last name.SetVr w = refl
-    last name.SourceId w = refl

@@ -5,8 +5,9 @@ ghost use Rattle.directive.specs.Directive.{GivesName, Within, directive_fits, d
 
 use super::fault::SpduFault;
 use super::link::{LinkEstablishment, link_of, link_word};
+use super::packed::{Packed, write_packed};
 use super::reserved::{ReservedCode, spare};
-use bits::{assemble, field, is_set, octets_of, put_first, word};
+use bits::{assemble, field, is_set, word};
 
 /// The name of a directive.
 #[derive(Clone, Copy, PartialEq, Eq, Debug)]
@@ -83,23 +84,45 @@ impl Directive {
             Directive::SourceId(_) => Name::SourceId,
         }
     }
+}
 
-    // The bits of a directive. None where a value is wider than its field.
-    fn word(self) -> Option<u128>
-        ensures { result ≡ (if directive_fits self then Some (directive_word self) else None) }
-    {
-        match self {
-            Directive::LinkEstablishment(link) => link_word(link),
-            Directive::ReportRequest(request) => assemble(&[
-                (3, 1),
-                (1, u128::from(request.channel0)),
-                (1, u128::from(request.channel1)),
-                (6, request.time_tags as u128),
-                (5, request.status as u128),
-            ]),
-            Directive::SetVr(number) => assemble(&[(3, 2), (5, 0), (8, number as u128)]),
-            Directive::SourceId(id) => assemble(&[(3, 3), (13, 0), (16, id as u128)]),
-        }
+// The word of a directive's fields. None where a value is wider than its field.
+fn directive_word(directive: Directive) -> Option<u128>
+    ensures { result ≡ (if directive_fits directive then Some (directive_word directive) else None) }
+{
+    match directive {
+        Directive::LinkEstablishment(link) => link_word(link),
+        Directive::ReportRequest(request) => assemble(&[
+            (3, 1),
+            (1, u128::from(request.channel0)),
+            (1, u128::from(request.channel1)),
+            (6, u128::from(request.time_tags)),
+            (5, u128::from(request.status)),
+        ]),
+        Directive::SetVr(number) => assemble(&[(3, 2), (5, 0), (8, u128::from(number))]),
+        Directive::SourceId(id) => assemble(&[(3, 3), (13, 0), (16, u128::from(id))]),
+    }
+}
+
+impl Packed for Directive {
+    ghost fits = { directive_fits };
+
+    ghost word = { directive_word };
+
+    ghost size = { λ d. size_of (name_for d) };
+
+    ghost read = { read_directive };
+
+    fn word(self) -> Option<u128> {
+        directive_word(self)
+    }
+
+    fn size(self) -> usize {
+        self.name().size()
+    }
+
+    fn read(octets: &[u8]) -> Result<Self, SpduFault> {
+        read_directive(octets)
     }
 }
 
@@ -174,9 +197,5 @@ pub fn write_directive(directive: Directive, buffer: &mut [u8]) -> Result<usize,
     ensures after { buffer.new ≡ written (encoded_directive directive) buffer.old }
     ensures undone { IfOk result (λ n. read_directive (take n buffer.new) ≡ Ok directive) }
 {
-    let word = directive.word().ok_or(SpduFault::TooWide)?;
-    let all = octets_of(word);
-    let octets = &all[16 - directive.name().size()..];
-    read_directive(octets)?;
-    put_first(octets, buffer).ok_or(SpduFault::Buffer)
+    write_packed(directive, buffer)
 }

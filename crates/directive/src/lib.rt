@@ -9,4 +9,5 @@ pub mod directive;
 pub mod fault;
 pub mod link;
 pub mod rate;
+pub mod packed;
 pub mod reserved;
