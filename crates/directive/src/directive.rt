@@ -2,12 +2,13 @@
 ghost use Rattle.std.specs.Prelude.{◌≡◌, drop, take, IfOk, if◌then◌else◌, Some, None, Ok};
 ghost use Rattle.bits.specs.Codec.{write_answer, written};
 ghost use Rattle.directive.specs.Directive.{GivesName, Within, directive_fits, directive_in, directive_word, encoded_directive, first_directive, front, name_for, read_directive, size_of};
+ghost use Rattle.directive.specs.declared.fault.SpduFault.TheVariants.{Buffer};
 
 use super::fault::SpduFault;
 use super::link::{LinkEstablishment, link_of, link_word};
 use super::packed::{Packed, write_packed};
 use super::reserved::{ReservedCode, spare};
-use bits::{assemble, field, is_set, word};
+use bits::{Encode, assemble, field, is_set, word};
 
 /// The name of a directive.
 #[derive(Clone, Copy, PartialEq, Eq, Debug)]
@@ -123,6 +124,18 @@ impl Packed for Directive {
 
     fn read(octets: &[u8]) -> Result<Self, SpduFault> {
         read_directive(octets)
+    }
+}
+
+impl Encode for Directive {
+    type Fault = SpduFault;
+
+    ghost encoded = { encoded_directive };
+
+    ghost no_room = { Buffer };
+
+    fn write(self, buffer: &mut [u8]) -> Result<usize, SpduFault> {
+        write_directive(self, buffer)
     }
 }
 

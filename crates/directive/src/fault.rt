@@ -42,6 +42,7 @@ impl SpduFault {
 impl Fault for SpduFault {
     ghost told = { spdu_fault };
 
+    // By a match, since cases that hold an octet take no number of their own.
     fn number(&self) -> u8 {
         match self {
             SpduFault::Length => 6,

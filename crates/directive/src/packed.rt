@@ -12,7 +12,9 @@ use bits::{octets_of, put_first};
 pub trait Packed: Copy {
     // Whether no value is wider than its field, the word of the fields, and how many octets it has.
     ghost fits: { Self → Bool };
+
     ghost word: { Self → ℕ };
+
     ghost size: { Self → ℕ };
 
     // The value that octets are.
