@@ -151,8 +151,3 @@ writing_undoes o d t r =
     ap (λ b. encoding fault.TooWide b (directive_octets d) (read_directive (directive_octets d))) fit
     ∙ ap (λ p. encoding fault.TooWide true p (read_directive p)) all
     ∙ ap (encoding fault.TooWide true o) r
-
--- what was read is encoded as it was
-pub undone : (o : List ℕ) (r : Result Directive SpduFault) → ((i : ℕ) → get_or o i 0 < 256) → r ≡ read_directive o → IfOk r (λ d. encoded_directive d ≡ Ok o)
-undone o (Ok d) t e = writing_undoes o d t (sym e)
-undone o (Err x) t e = tt
