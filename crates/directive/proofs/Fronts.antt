@@ -1,5 +1,5 @@
 -- The directive at the front of octets.
-use Rattle.std.proofs.Common.{◌≡◌, ℕ, ◌+◌, ◌-◌, ◌*◌, ◌/◌, ◌%◌, ◌^◌, ◌<◌, ◌≤◌, Bool, true, false, cond, leb, eqb, List, [], ◌∷◌, length, get_or, take, drop, is_ok, IfErr, Some, None, Ok, Err, Option, Result, sym, refl, ap, ◌∙◌, subst, arith, length-drop}
+use Rattle.std.proofs.Common.{◌≡◌, ℕ, ◌+◌, ◌-◌, ◌*◌, ◌/◌, ◌%◌, ◌^◌, ◌<◌, ◌≤◌, Bool, true, false, cond, leb, eqb, List, [], ◌∷◌, length, get_or, take, is_ok, IfErr, Some, None, Ok, Err, Option, Result, sym, refl, ap, ◌∙◌, subst, arith}
 use Rattle.std.specs.Option.{option_map}
 use Rattle.std.proofs.lemmas.List.{length-take-le, get_or-take, take_all}
 use Rattle.std.proofs.lemmas.Bool.{le-leb, leb-true, eq-eqb, eqb-true}
@@ -8,7 +8,7 @@ use Rattle.bits.specs.Layout.{total, number}
 use Rattle.bits.proofs.Layouts.{number_small, front_octets}
 use Rattle.directive.specs.Fault.{spdu_fault, moved}
 use Rattle.directive.specs.Rule.{Rule, layout, leftmost, verdict, judged}
-use Rattle.directive.specs.Directive.{name_of, rules_of, size_of, fields_in, named, front, Within, directive_of, directive_in, named_directive, first_directive, whole, read_directive, name_for}
+use Rattle.directive.specs.Directive.{name_of, rules_of, size_of, fields_in, named, front, directive_of, directive_in, named_directive, first_directive, whole, read_directive, name_for}
 use Rattle.directive.specs.declared.directive.Directive.{Directive}
 use Rattle.directive.specs.declared.directive.Name.{Name}
 use Rattle.directive.specs.declared.directive.Name.TheVariants as name
@@ -190,15 +190,6 @@ never_none at x o e = by (name_of (x / 32)) e
     by : (k : Option Name) → named at k (x ∷ o) ≡ Ok None → ⊥
     by None q = cc
     by (Some n) q = room n (leb (size_of n) (length (x ∷ o))) (judged at (rules_of n) (fields_in n (take (size_of n) (x ∷ o)))) q
-
-pub front_within : (at : ℕ) (unit : List ℕ) (r : Result (Option Name) SpduFault) → r ≡ front at (drop at unit) → Within at unit r
-front_within at unit (Ok (Some n)) e = within_rest (drop at unit) refl (sym e)
-  where
-    within_rest : (o : List ℕ) → drop at unit ≡ o → front at o ≡ Ok (Some n) → at + size_of n ≤ length unit
-    within_rest [] q h = cc
-    within_rest (x ∷ o) q h = let g = front_ok at x o n h in omega (arith, g.room, ap length q, length-drop at unit)
-front_within at unit (Ok None) e = tt
-front_within at unit (Err x) e = tt
 
 -- a directive that was found can be read alone
 pub found_reads : (at : ℕ) (x : ℕ) (o : List ℕ) (n : Name) → front at (x ∷ o) ≡ Ok (Some n) → is_ok (read_directive (take (size_of n) (x ∷ o))) ≡ true

@@ -8,7 +8,7 @@ use Rattle.bits.proofs.Layouts.{join_below, cut_undoes_join, join_undoes_cut, cu
 use Rattle.directive.proofs.Kept.{flag_back, flag_kept}
 use Rattle.directive.specs.declared.fault.SpduFault.{SpduFault}
 use Rattle.directive.specs.declared.fault.SpduFault.TheVariants as fault
-use Rattle.spdu.specs.Report.{report_layout, report_fields, report_of, report_with, read_report, report_octets, encoded_report}
+use Rattle.spdu.specs.Report.{report_layout, report_fields, report_fits, report_word, report_of, report_with, read_report, report_octets, encoded_report}
 use Rattle.spdu.specs.declared.report.Report.{Report}
 
 -- two octets with bits 10 are judged by their fields
@@ -16,9 +16,9 @@ pub two_octets : (x y : ℕ) (r : Result Report SpduFault) → eqb (x / 64) 2 �
 two_octets x y r h e = e ∙ sym (ap (λ t. cond t (report_with (cut report_layout (number (x ∷ y ∷ [])))) (Err fault.Kind)) h)
 
 -- what reading answers at a report's own octets
-pub own_octets : (r : Report) → fits report_layout (report_fields r) ≡ true → read_report (report_octets r) ≡ Ok r
+pub own_octets : (r : Report) → report_fits r ≡ true → read_report (report_octets r) ≡ Ok r
 own_octets r h =
-    let w = join report_layout (report_fields r) in
+    let w = report_word r in
     let fields : cut report_layout w ≡ report_fields r = cut_undoes_join report_layout (report_fields r) h in
     let kind : w / 2 ^ 14 % 2 ^ 2 ≡ 2 = ap (λ fs. get_or fs 0 0) fields in
     let first : eqb (w / 2 ^ 8 % 2 ^ 8 / 64) 2 ≡ true = eq-eqb (w / 2 ^ 8 % 2 ^ 8 / 64) 2 (omega (arith, kind)) in

@@ -7,7 +7,7 @@ use Rattle.bits.specs.Layout.{cut, join, fits, number}
 use Rattle.bits.proofs.Codecs.{granted}
 use Rattle.directive.specs.declared.fault.SpduFault.{SpduFault}
 use Rattle.directive.specs.declared.fault.SpduFault.TheVariants as fault
-use Rattle.spdu.specs.Report.{report_layout, report_fields, report_with, read_report, report_octets, encoded_report}
+use Rattle.spdu.specs.Report.{report_layout, report_fits, report_with, read_report, report_octets, encoded_report}
 use Rattle.spdu.specs.Item.{ContentValue, holds_report, holds_field, opened, opens_field, type_of, type_code, enough, items_of, read}
 use Rattle.spdu.specs.Spdu.{SpduValue, report, variable, content_read, read_spdu, variable_layout, variable_fields, spdu_fits, spdu_octets, encoded_spdu}
 use Rattle.spdu.specs.declared.report.Report.{Report}
@@ -143,7 +143,7 @@ report_is o r s e h = let q : Ok s ≡ Ok (report r) = sym h ∙ ap (λ k. carry
 write_kind : (o : List ℕ) (c : ContentValue) (s : SpduValue) → ((i : ℕ) → get_or o i 0 < 256) → read_spdu o ≡ Ok s → content_read c ≡ Ok s → Kind o c → encoded_spdu s ≡ Ok o
 write_kind o c s t h i (as_report r e q) =
     let is : s ≡ report r = report_is o r s e (ap content_read (sym q) ∙ i) in
-    let g = granted fault.TooWide (fits report_layout (report_fields r)) (report_octets r) (read_report (report_octets r)) o (reports.writing_undoes o r t e) in
+    let g = granted fault.TooWide (report_fits r) (report_octets r) (read_report (report_octets r)) o (reports.writing_undoes o r t e) in
     ap encoded_spdu is
     ∙ ap (λ b. encoding fault.TooWide b (report_octets r) (read_spdu (report_octets r))) g.fits
     ∙ ap (λ p. encoding fault.TooWide true p (read_spdu p)) g.same
@@ -176,9 +176,9 @@ few o s h = let k = held o (opened o) s refl h in few_kind o k.content (kind o k
 
 -- a report has one encoding, alone or as an SPDU
 pub same_encoding : (r : Report) → encoded_report r ≡ encoded_spdu (report r)
-same_encoding r = by (fits report_layout (report_fields r)) refl
+same_encoding r = by (report_fits r) refl
   where
-    by : (t : Bool) → fits report_layout (report_fields r) ≡ t → encoding fault.TooWide t (report_octets r) (read_report (report_octets r)) ≡ encoding fault.TooWide t (report_octets r) (read_spdu (report_octets r))
+    by : (t : Bool) → report_fits r ≡ t → encoding fault.TooWide t (report_octets r) (read_report (report_octets r)) ≡ encoding fault.TooWide t (report_octets r) (read_spdu (report_octets r))
     by true e =
         let own = reports.own_octets r e in
         ap (encoding fault.TooWide true (report_octets r)) own ∙ sym (ap (encoding fault.TooWide true (report_octets r)) (reads_report (report_octets r) r own))

@@ -1,8 +1,8 @@
 //! The report of a receiver (PLCW).
-ghost use Rattle.std.specs.Prelude.{◌≡◌, take, IfOk, if◌then◌else◌, Some, None, Ok};
+ghost use Rattle.std.specs.Prelude.{◌≡◌, take, IfOk, Ok};
 ghost use Rattle.bits.specs.Codec.{write_answer, written};
-ghost use Rattle.bits.specs.Layout.{cut, fits, join};
-ghost use Rattle.spdu.specs.Report.{encoded_report, read_report, report_fields, report_layout, report_with};
+ghost use Rattle.bits.specs.Layout.{cut};
+ghost use Rattle.spdu.specs.Report.{encoded_report, read_report, report_fits, report_layout, report_with, report_word};
 ghost use Rattle.directive.specs.declared.fault.SpduFault.TheVariants.{Buffer};
 
 use bits::{Encode, assemble, field, is_set, word};
@@ -41,31 +41,24 @@ fn report_of(word: u128) -> Result<Report, SpduFault>
     })
 }
 
-// The sixteen bits of a report. None where a value is wider than its field.
-fn report_word(report: Report) -> Option<u128>
-    ensures { result ≡ (if fits report_layout (report_fields report) then Some (join report_layout (report_fields report)) else None) }
-{
-    assemble(&[
-        (2, 2),
-        (1, u128::from(report.retransmit)),
-        (1, u128::from(report.channel)),
-        (1, 0),
-        (3, u128::from(report.counter)),
-        (8, u128::from(report.value)),
-    ])
-}
-
 impl Packed for Report {
-    ghost fits = { λ report. fits report_layout (report_fields report) };
+    ghost fits = { report_fits };
 
-    ghost word = { λ report. join report_layout (report_fields report) };
+    ghost word = { report_word };
 
     ghost size = { λ _. 2 };
 
     ghost read = { read_report };
 
     fn word(self) -> Option<u128> {
-        report_word(self)
+        assemble(&[
+            (2, 2),
+            (1, u128::from(self.retransmit)),
+            (1, u128::from(self.channel)),
+            (1, 0),
+            (3, u128::from(self.counter)),
+            (8, u128::from(self.value)),
+        ])
     }
 
     fn size(self) -> usize {
