@@ -1,9 +1,8 @@
 -- The fields of a directive and its record are the same.
-use Rattle.std.proofs.Common.{◌≡◌, ℕ, ◌<◌, ◌≤◌, Bool, true, false, cond, eqb, leb, List, get_or, Some, None, Ok, Option, refl, ap, arith}
-use Rattle.std.proofs.lemmas.Bool.{eqb-true, leb-true}
+use Rattle.std.proofs.Common.{◌≡◌, ℕ, ◌+◌, ◌/◌, ◌<◌, ◌≤◌, Bool, true, false, cond, eqb, List, [], ◌∷◌, get_or, Some, None, Ok, Option, refl, ap, arith, rules}
 use Rattle.std.proofs.lemmas.Bool.Decides.{nat_tests}
 use Rattle.bits.specs.Layout.{cut}
-use Rattle.directive.specs.Rule.{layout, leftmost, verdict, judged}
+use Rattle.directive.specs.Rule.{Rule, layout, leftmost, verdict, judged}
 use Rattle.directive.specs.Link.{flag, duplex_code, duplex_of, modulation_code, modulation_of, coding_code, coding_of, coding_allowed, link_rules, link_fields, link_of}
 use Rattle.directive.specs.Directive.{rules_of, directive_of, fields_for, name_for}
 use Rattle.directive.specs.declared.directive.Name.{Name}
@@ -18,11 +17,12 @@ use Rattle.directive.specs.declared.link.Modulation.TheVariants.{BiPhaseL, Gmsk}
 use Rattle.directive.specs.declared.link.Coding.{Coding}
 use Rattle.directive.specs.declared.link.Coding.TheVariants.{Uncoded, Ldpc2048, Ldpc6144, Ldpc8160}
 
-flag_back : (b : Bool) → eqb (flag b) 1 ≡ b
+-- a flag and its bit
+pub flag_back : (b : Bool) → eqb (flag b) 1 ≡ b
 flag_back true = refl
 flag_back false = refl
 
-flag_kept : (n : ℕ) → n < 2 → flag (eqb n 1) ≡ n
+pub flag_kept : (n : ℕ) → n < 2 → flag (eqb n 1) ≡ n
 flag_kept n h = grind (arith, nat_tests)
 
 duplex_back : (d : Duplex) → duplex_of (duplex_code d) ≡ d
@@ -62,15 +62,28 @@ directive_back (directive.ReportRequest r) = rw (flag_back r.channel0, flag_back
 directive_back (directive.SetVr n) = refl
 directive_back (directive.SourceId i) = refl
 
--- what fields that were judged well say
-verdict_code : (at : ℕ) (a b : Option ℕ) → verdict at a b ≡ Ok tt → a ≡ None
-verdict_code at (Some k) b h = absurd (let z : ◌≡◌ {A = ℕ} 0 1 = cc in omega arith)
-verdict_code at None b h = refl
+-- each value passes the test of its rule
+abbrev Passes : (Rule → ℕ → Bool) → List Rule → List ℕ → Type 0
+Passes test [] vs = Unit {0}
+Passes test (r ∷ rules) [] = Unit {0}
+Passes test (r ∷ rules) (v ∷ vs) = (test r v ≡ true) × Passes test rules vs
 
--- a test that leaves none was passed
-passed : (t : Bool) (r : Option ℕ) (k : ℕ) → cond t r (Some k) ≡ None → (t ≡ true) × (r ≡ None)
-passed true r k h = (refl, h)
-passed false r k h = absurd (let z : ◌≡◌ {A = ℕ} 0 1 = cc in omega arith)
+all_pass : (test : Rule → ℕ → Bool) (rules : List Rule) (bit : ℕ) (vs : List ℕ) → leftmost test rules bit vs ≡ None → Passes test rules vs
+all_pass test [] bit vs h = tt
+all_pass test (r ∷ rules) bit [] h = tt
+all_pass test (r ∷ rules) bit (v ∷ vs) h = by (test r v) (all_pass test rules (bit + r.width) vs) refl h
+  where
+    by : (t : Bool) → (leftmost test rules (bit + r.width) vs ≡ None → Passes test rules vs) → test r v ≡ t → cond t (leftmost test rules (bit + r.width) vs) (Some (bit / 8)) ≡ None → (test r v ≡ true) × Passes test rules vs
+    by true rest e q = (e, rest q)
+    by false rest e q = cc
+
+-- the codes of a directive whose fields are allowed
+codes_pass : (rules : List Rule) (vs : List ℕ) → judged 0 rules vs ≡ Ok tt → Passes (λ r. r.code) rules vs
+codes_pass rules vs h = all_pass (λ r. r.code) rules 0 vs (by (leftmost (λ r. r.code) rules 0 vs) (leftmost (λ r. r.range) rules 0 vs) h)
+  where
+    by : (a b : Option ℕ) → verdict 0 a b ≡ Ok tt → a ≡ None
+    by (Some k) b q = cc
+    by None b q = refl
 
 -- the name's code
 abbrev pub code : Name → ℕ
@@ -84,22 +97,16 @@ link_at w i = get_or (cut (layout link_rules) w) i 0
 
 link_kept : (w : ℕ) → judged 0 link_rules (cut (layout link_rules) w) ≡ Ok tt → link_at w 0 ≡ 0 → link_fields (link_of (cut (layout link_rules) w)) ≡ cut (layout link_rules) w
 link_kept w h name =
-    let fs = cut (layout link_rules) w in
-    let none = verdict_code 0 (leftmost (λ r. r.code) link_rules 0 fs) (leftmost (λ r. r.range) link_rules 0 fs) h in
-    let t1 = passed (eqb (link_at w 1) 0) _ _ none in
-    let t7 = passed (leb (link_at w 7) 4) _ _ t1.1 in
-    let t10 = passed (eqb (link_at w 10) 0) _ _ t7.1 in
-    let t11 = passed (leb (link_at w 11) 1) _ _ t10.1 in
-    let t13 = passed (eqb (link_at w 13) 0) _ _ t11.1 in
-    let t14 = passed (coding_allowed (link_at w 14)) _ _ t13.1 in
-    let t15 = passed (eqb (link_at w 15) 0) _ _ t14.1 in
-    let t17 = passed (eqb (link_at w 17) 0) _ _ t15.1 in
-    let spare1 : link_at w 1 ≡ 0 = eqb-true (link_at w 1) 0 t1.0 in
-    let spare10 : link_at w 10 ≡ 0 = eqb-true (link_at w 10) 0 t10.0 in
-    let spare13 : link_at w 13 ≡ 0 = eqb-true (link_at w 13) 0 t13.0 in
-    let spare15 : link_at w 15 ≡ 0 = eqb-true (link_at w 15) 0 t15.0 in
-    let spare17 : link_at w 17 ≡ 0 = eqb-true (link_at w 17) 0 t17.0 in
-    rw (flag_kept (link_at w 2) (omega arith), flag_kept (link_at w 3) (omega arith), flag_kept (link_at w 4) (omega arith), flag_kept (link_at w 5) (omega arith), flag_kept (link_at w 6) (omega arith), duplex_kept (link_at w 7) (leb-true (link_at w 7) 4 t7.0), flag_kept (link_at w 8) (omega arith), flag_kept (link_at w 9) (omega arith), modulation_kept (link_at w 11) (leb-true (link_at w 11) 1 t11.0), coding_kept (link_at w 14) t14.0, name, spare1, spare10, spare13, spare15, spare17)
+    let pass = codes_pass link_rules (cut (layout link_rules) w) h in
+    let spare1 : link_at w 1 ≡ 0 = grind (arith, nat_tests) in
+    let spare10 : link_at w 10 ≡ 0 = grind (arith, nat_tests) in
+    let spare13 : link_at w 13 ≡ 0 = grind (arith, nat_tests) in
+    let spare15 : link_at w 15 ≡ 0 = grind (arith, nat_tests) in
+    let spare17 : link_at w 17 ≡ 0 = grind (arith, nat_tests) in
+    let duplex : link_at w 7 ≤ 4 = grind (arith, nat_tests) in
+    let modulation : link_at w 11 ≤ 1 = grind (arith, nat_tests) in
+    let coding : coding_allowed (link_at w 14) ≡ true = search rules in
+    rw (flag_kept (link_at w 2) (omega arith), flag_kept (link_at w 3) (omega arith), flag_kept (link_at w 4) (omega arith), flag_kept (link_at w 5) (omega arith), flag_kept (link_at w 6) (omega arith), duplex_kept (link_at w 7) duplex, flag_kept (link_at w 8) (omega arith), flag_kept (link_at w 9) (omega arith), modulation_kept (link_at w 11) modulation, coding_kept (link_at w 14) coding, name, spare1, spare10, spare13, spare15, spare17)
 
 -- the fields of a directive with these bits are the fields that were cut, if they were judged well
 pub fields_kept : (n : Name) (w : ℕ) → judged 0 (rules_of n) (cut (layout (rules_of n)) w) ≡ Ok tt → get_or (cut (layout (rules_of n)) w) 0 0 ≡ code n → fields_for (directive_of n (cut (layout (rules_of n)) w)) ≡ cut (layout (rules_of n)) w
@@ -109,13 +116,13 @@ fields_kept name.ReportRequest w h e =
     rw (flag_kept (get_or fs 1 0) (omega arith), flag_kept (get_or fs 2 0) (omega arith), e)
 fields_kept name.SetVr w h e =
     let fs = cut (layout (rules_of name.SetVr)) w in
-    let none = verdict_code 0 (leftmost (λ r. r.code) (rules_of name.SetVr) 0 fs) (leftmost (λ r. r.range) (rules_of name.SetVr) 0 fs) h in
-    let spare : get_or fs 1 0 ≡ 0 = eqb-true (get_or fs 1 0) 0 (passed (eqb (get_or fs 1 0) 0) _ _ none).0 in
+    let pass = codes_pass (rules_of name.SetVr) fs h in
+    let spare : get_or fs 1 0 ≡ 0 = grind (arith, nat_tests) in
     rw (e, spare)
 fields_kept name.SourceId w h e =
     let fs = cut (layout (rules_of name.SourceId)) w in
-    let none = verdict_code 0 (leftmost (λ r. r.code) (rules_of name.SourceId) 0 fs) (leftmost (λ r. r.range) (rules_of name.SourceId) 0 fs) h in
-    let spare : get_or fs 1 0 ≡ 0 = eqb-true (get_or fs 1 0) 0 (passed (eqb (get_or fs 1 0) 0) _ _ none).0 in
+    let pass = codes_pass (rules_of name.SourceId) fs h in
+    let spare : get_or fs 1 0 ≡ 0 = grind (arith, nat_tests) in
     rw (e, spare)
 
 pub name_kept : (n : Name) (fs : List ℕ) → name_for (directive_of n fs) ≡ n

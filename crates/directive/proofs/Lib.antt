@@ -1,3 +1,4 @@
-pub mod Fronts
+pub mod Packing
 pub mod Kept
+pub mod Fronts
 pub mod Trips

@@ -1,11 +1,10 @@
 -- A directive survives both ways through its octets.
-use Rattle.std.proofs.Common.{◌≡◌, ℕ, ◌-◌, ◌/◌, ◌^◌, ◌<◌, Bool, true, false, cond, eqb, List, [], ◌∷◌, length, get_or, take, drop, IfOk, Some, None, Ok, Err, Option, Result, sym, refl, ap, ◌∙◌, arith}
+use Rattle.std.proofs.Common.{◌≡◌, ℕ, ◌/◌, ◌^◌, ◌<◌, Bool, true, false, cond, eqb, List, [], ◌∷◌, length, get_or, IfSome, IfOk, Some, None, Ok, Err, Option, Result, sym, refl, ap, ◌∙◌, arith}
 use Rattle.std.proofs.lemmas.List.{take_all, length-replicate}
-use Rattle.std.proofs.lemmas.Bool.{le-leb, eq-eqb, eqb-true}
+use Rattle.std.proofs.lemmas.Bool.{eq-eqb, eqb-true}
 use Rattle.std.proofs.lemmas.Bool.Decides.{nat_tests}
 use Rattle.bits.specs.Codec.{carry, encoding}
 use Rattle.bits.specs.Layout.{total, cut, join, fits, octets, number}
-use Rattle.bits.proofs.Codecs.{granted}
 use Rattle.bits.proofs.Layouts.{join_below, cut_undoes_join, join_undoes_cut, cut_fits, length_cut, number_cut, cut_number, number_octets, first_bits}
 use Rattle.directive.specs.Rule.{layout, judged}
 use Rattle.directive.specs.Directive.{name_of, rules_of, size_of, fields_in, front, whole, read_directive, directive_of, name_for, fields_for, directive_fits, directive_word, directive_octets, encoded_directive}
@@ -15,7 +14,7 @@ use Rattle.directive.specs.declared.directive.Directive.{Directive}
 use Rattle.directive.specs.declared.directive.Directive.TheVariants as directive
 use Rattle.directive.specs.declared.fault.SpduFault.{SpduFault}
 use Rattle.directive.specs.declared.fault.SpduFault.TheVariants as fault
-use Rattle.directive.proofs.Fronts.{front_named, named_ok}
+use Rattle.directive.proofs.Fronts.{through, front_judged, named_ok}
 use Rattle.directive.proofs.Kept.{code, directive_back, fields_kept, name_kept}
 
 -- a layout is as many octets as its directive has
@@ -50,10 +49,6 @@ some_octet name.ReportRequest w = omega arith
 some_octet name.SetVr w = omega arith
 some_octet name.SourceId w = omega arith
 
-through : (o : List ℕ) (n : Name) (d : Directive) (r : Result (Unit {0}) SpduFault) → whole o (Some n) ≡ Ok d → carry (carry r (λ _. Ok (Some n))) (whole o) ≡ carry r (λ _. Ok d)
-through o n d (Ok u) e = e
-through o n d (Err e) _ = refl
-
 -- what reading answers at a directive's own octets
 pub own_octets : (d : Directive) → directive_fits d ≡ true → read_directive (directive_octets d) ≡ carry (judged 0 (rules_of (name_for d)) (fields_for d)) (λ _. Ok d)
 own_octets d h =
@@ -68,8 +63,7 @@ own_octets d h =
     let first : Some n ≡ name_of (get_or o 0 0 / 32) = sym (ap name_of (first_octet n w ∙ ap (λ fs. get_or fs 0 0) fields ∙ code_first d) ∙ name_back n) in
     let values : fields_in n o ≡ fields_for d = ap (cut (layout rules)) again ∙ fields in
     let at_front : front 0 o ≡ carry (judged 0 rules (fields_for d)) (λ _. Ok (Some n)) =
-    front_named 0 o (Some n) (some_octet n w) first
-    ∙ ap (λ t. cond t (carry (judged 0 rules (fields_in n (take (size_of n) o))) (λ _. Ok (Some n))) (Err (fault.Cut 0))) (le-leb (size_of n) (length o) (omega (arith, size)))
+    front_judged 0 o n (some_octet n w) first (omega (arith, size))
     ∙ ap (λ p. carry (judged 0 rules (fields_in n p)) (λ _. Ok (Some n))) (take_all (size_of n) o (omega (arith, size)))
     ∙ ap (λ fs. carry (judged 0 rules fs) (λ _. Ok (Some n))) values
     in
@@ -78,18 +72,19 @@ own_octets d h =
     ∙ ap (λ fs. Ok (directive_of n fs)) values
     ∙ ap Ok (directive_back d)
     in
-    ap (λ r. carry r (whole o)) at_front ∙ through o n d (judged 0 rules (fields_for d)) all
+    ap (λ r. carry r (whole o)) at_front ∙ through (judged 0 rules (fields_for d)) (Some n) (whole o) ∙ ap (λ r. carry (judged 0 rules (fields_for d)) (λ _. r)) all
 
-answers_ok : (d : Directive) (r : Result (Unit {0}) SpduFault) → ((e : SpduFault) → carry r (λ _. Ok d) ≡ Err e → ⊥) → carry r (λ _. Ok d) ≡ Ok d
-answers_ok d (Ok u) h = refl
-answers_ok d (Err e) h = absurd (h e refl)
+-- reading a directive's own octets makes it, unless it refuses them
+pub own_word : (d : Directive) (r : Option ℕ) → r ≡ cond (directive_fits d) (Some (directive_word d)) None → IfSome r (λ w. IfOk (read_directive (cut (octets (size_of (name_for d))) w)) (λ v. v ≡ d))
+own_word d r e = rw e (by (directive_fits d) refl)
+  where
+    judges : (j : Result (Unit {0}) SpduFault) → IfOk (carry j (λ _. Ok d)) (λ v. v ≡ d)
+    judges (Ok u) = refl
+    judges (Err x) = tt
 
--- reading undoes writing
-pub reading_undoes : (d : Directive) (o : List ℕ) → encoded_directive d ≡ Ok o → read_directive o ≡ Ok d
-reading_undoes d o h =
-    let g = granted fault.TooWide (directive_fits d) (directive_octets d) (read_directive (directive_octets d)) o h in
-    let own = own_octets d g.fits in
-    ap read_directive (sym g.same) ∙ own ∙ answers_ok d (judged 0 (rules_of (name_for d)) (fields_for d)) (λ e q. g.readable e (own ∙ q))
+    by : (t : Bool) → directive_fits d ≡ t → IfSome (cond t (Some (directive_word d)) None) (λ w. IfOk (read_directive (cut (octets (size_of (name_for d))) w)) (λ v. v ≡ d))
+    by true q = rw (own_octets d q) (judges (judged 0 (rules_of (name_for d)) (fields_for d)))
+    by false q = tt
 
 -- what a directive that was read says of its octets
 record Taken (o : List ℕ) (d : Directive) : Type 0 where
@@ -101,22 +96,22 @@ record Taken (o : List ℕ) (d : Directive) : Type 0 where
   is : d ≡ directive_of name (fields_in name o)
 
 whole_ok : (o : List ℕ) (k : Option Name) (d : Directive) → whole o k ≡ Ok d → (n : Name) × ((k ≡ Some n) × ((size_of n ≡ length o) × (d ≡ directive_of n (fields_in n o))))
-whole_ok o None d e = absurd (let z : ◌≡◌ {A = ℕ} 0 1 = cc in omega arith)
+whole_ok o None d e = cc
 whole_ok o (Some n) d e = (n, (refl, fit (eqb (size_of n) (length o)) refl e))
   where
     fit : (t : Bool) → eqb (size_of n) (length o) ≡ t → cond t (Ok (directive_of n (fields_in n o))) (Err fault.Length) ≡ Ok d → (size_of n ≡ length o) × (d ≡ directive_of n (fields_in n o))
     fit true q r = (eqb-true (size_of n) (length o) q, cc)
-    fit false q r = absurd (let z : ◌≡◌ {A = ℕ} 0 1 = cc in omega arith)
+    fit false q r = cc
 
 taken_at : (o : List ℕ) (r : Result (Option Name) SpduFault) (d : Directive) → front 0 o ≡ r → carry r (whole o) ≡ Ok d → Taken o d
-taken_at o (Err e) d f h = absurd (let z : ◌≡◌ {A = ℕ} 0 1 = cc in omega arith)
+taken_at o (Err e) d f h = cc
 taken_at [] (Ok k) d f h =
     let w = whole_ok [] k d h in
-    absurd (let z : ◌≡◌ {A = ℕ} 0 1 = (let same : ◌≡◌ {A = Result (Option Name) SpduFault} (Ok None) (Ok (Some w.0)) = f ∙ ap Ok w.1.0 in cc) in omega arith)
+    cc (f, w.1.0)
 taken_at (x ∷ o) (Ok k) d f h =
     let w = whole_ok (x ∷ o) k d h in
     let n = w.0 in
-    let g = named_ok 0 (x ∷ o) (name_of (x / 32)) n (f ∙ ap Ok w.1.0) in
+    let g = named_ok (x ∷ o) (name_of (x / 32)) n (f ∙ ap Ok w.1.0) in
     record {
       name = n;
       first = g.name;
@@ -156,18 +151,3 @@ writing_undoes o d t r =
     ap (λ b. encoding fault.TooWide b (directive_octets d) (read_directive (directive_octets d))) fit
     ∙ ap (λ p. encoding fault.TooWide true p (read_directive p)) all
     ∙ ap (encoding fault.TooWide true o) r
-
--- what was read is encoded as it was
-pub undone : (o : List ℕ) (r : Result Directive SpduFault) → ((i : ℕ) → get_or o i 0 < 256) → r ≡ read_directive o → IfOk r (λ d. encoded_directive d ≡ Ok o)
-undone o (Ok d) t e = writing_undoes o d t (sym e)
-undone o (Err x) t e = tt
-
--- the last octets of a word are a directive's own
-pub own_slice : (d : Directive) (w : ℕ) (all : List ℕ) (size : ℕ) → w ≡ directive_word d → all ≡ cut (octets 16) w → size ≡ size_of (name_for d) → take (16 - (16 - size)) (drop (16 - size) all) ≡ directive_octets d
-own_slice d w all size ew ea es = rw (es, ea, ew) (last (name_for d) (directive_word d))
-  where
-    last : (n : Name) (w : ℕ) → take (16 - (16 - size_of n)) (drop (16 - size_of n) (cut (octets 16) w)) ≡ cut (octets (size_of n)) w
-    last name.LinkEstablishment w = refl
-    last name.ReportRequest w = refl
-    last name.SetVr w = refl
-    last name.SourceId w = refl

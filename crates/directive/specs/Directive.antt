@@ -1,9 +1,11 @@
 -- Directives by their octets.
-use Rattle.std.specs.Prelude.{ℕ, ◌+◌, ◌/◌, ◌≤◌, Bool, cond, List, [], ◌∷◌, length, take, Some, None, Ok, Err, Option, Result, ◌==◌, nat_le, slice_index}
+use Rattle.std.specs.Prelude.{◌≡◌, ℕ, ◌+◌, ◌/◌, ◌≤◌, Bool, cond, List, [], ◌∷◌, length, take, Some, None, Ok, Err, Option, Result, ◌==◌, nat_le, slice_index}
+use Rattle.std.specs.Option.{ok_or}
 use Rattle.bits.specs.Layout.{total, cut, join, fits, octets, number}
 use Rattle.bits.specs.Codec.{carry, encoding}
-use Rattle.directive.specs.Rule.{Rule, free, spare, layout, judged}
+use Rattle.directive.specs.Rule.{Rule, free, spare, layout, judged, allowed}
 use Rattle.directive.specs.Link.{flag, link_rules, link_fields, link_of}
+use Rattle.directive.specs.declared.reserved.ReservedCode.{ReservedCode}
 use Rattle.directive.specs.declared.directive.Name.{Name}
 use Rattle.directive.specs.declared.directive.Name.TheVariants as name
 use Rattle.directive.specs.declared.directive.Directive.{Directive}
@@ -18,6 +20,9 @@ name_of n =
     (cond (n == 1) (Some name.ReportRequest)
     (cond (n == 2) (Some name.SetVr)
     (cond (n == 3) (Some name.SourceId) None)))
+
+abbrev pub GivesName : ℕ → Result Name ReservedCode → Type 0
+GivesName n r = r ≡ ok_or (name_of n) (record {})
 
 -- name, request for channel 0, request for channel 1, time tags, status
 abbrev pub request_rules : List Rule
@@ -71,6 +76,19 @@ directive_of name.LinkEstablishment fs = directive.LinkEstablishment (link_of fs
 directive_of name.ReportRequest fs = directive.ReportRequest (record { channel0 = (slice_index fs 1 == 1); channel1 = (slice_index fs 2 == 1); time_tags = slice_index fs 3; status = slice_index fs 4 })
 directive_of name.SetVr fs = directive.SetVr (slice_index fs 2)
 directive_of name.SourceId fs = directive.SourceId (slice_index fs 2)
+
+-- the directive with that name and these bits, if they are allowed
+abbrev pub directive_in : Name → ℕ → Result Directive SpduFault
+directive_in n w = allowed (rules_of n) (cut (layout (rules_of n)) w) (directive_of n (cut (layout (rules_of n)) w))
+
+-- the directive of that name whose octets come first
+abbrev pub named_directive : List ℕ → Option Name → Option Directive
+named_directive o None = None
+named_directive o (Some n) = Some (directive_of n (fields_in n (take (size_of n) o)))
+
+-- the directive that these octets begin with
+abbrev pub first_directive : List ℕ → Result (Option Directive) SpduFault
+first_directive o = carry (front 0 o) (λ n. Ok (named_directive o n))
 
 -- the directive that is the whole of these octets
 abbrev pub whole : List ℕ → Option Name → Result Directive SpduFault

@@ -1,4 +1,5 @@
 -- The refusals of the layer of supervisory units.
+use Rattle.std.specs.Prelude.{ℕ, ◌+◌}
 use Rattle.refusal.specs.Place.{Place, place}
 use Rattle.refusal.specs.declared.Layer.TheVariants.{Spdu}
 use Rattle.directive.specs.declared.fault.SpduFault.{SpduFault}
@@ -13,3 +14,13 @@ spdu_fault (Reserved k) = place 9 Spdu k
 spdu_fault (Range k) = place 10 Spdu k
 spdu_fault TooWide = place 15 Spdu 0
 spdu_fault Buffer = place 18 Spdu 0
+
+-- the same fault, where the octets that were read start at this one
+abbrev pub moved : ℕ → SpduFault → SpduFault
+moved start Length = Length
+moved start Kind = Kind
+moved start (Cut k) = Cut (start + k)
+moved start (Reserved k) = Reserved (start + k)
+moved start (Range k) = Range (start + k)
+moved start TooWide = TooWide
+moved start Buffer = Buffer

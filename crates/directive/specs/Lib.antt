@@ -1,4 +1,5 @@
 pub mod Fault
+pub mod Packed
 pub mod Rule
 pub mod Rate
 pub mod Link

@@ -1,7 +1,9 @@
 -- The link establishment directive.
-use Rattle.std.specs.Prelude.{ℕ, Bool, cond, ◌||◌, List, [], ◌∷◌, ◌==◌, nat_le, nat_lt, slice_index}
+use Rattle.std.specs.Prelude.{◌≡◌, ℕ, Bool, cond, if◌then◌else◌, ◌||◌, List, [], ◌∷◌, Ok, Err, Result, ◌==◌, nat_le, nat_lt, slice_index}
+use Rattle.std.specs.Int.{from_bool}
 use Rattle.directive.specs.Rule.{Rule, free, spare, coded, ranged}
 use Rattle.directive.specs.Rate.{rate_allowed}
+use Rattle.directive.specs.declared.reserved.ReservedCode.{ReservedCode}
 use Rattle.directive.specs.declared.link.LinkEstablishment.{LinkEstablishment}
 use Rattle.directive.specs.declared.link.Duplex.{Duplex}
 use Rattle.directive.specs.declared.link.Duplex.TheVariants.{NoChange, Full, Half, SimplexTransmit, SimplexReceive}
@@ -11,7 +13,7 @@ use Rattle.directive.specs.declared.link.Coding.{Coding}
 use Rattle.directive.specs.declared.link.Coding.TheVariants.{Uncoded, Ldpc2048, Ldpc6144, Ldpc8160}
 
 abbrev pub flag : Bool → ℕ
-flag b = cond b 1 0
+flag b = from_bool b
 
 abbrev pub duplex_code : Duplex → ℕ
 duplex_code NoChange = 0
@@ -23,12 +25,19 @@ duplex_code SimplexReceive = 4
 abbrev pub duplex_of : ℕ → Duplex
 duplex_of n = cond (n == 0) NoChange (cond (n == 1) Full (cond (n == 2) Half (cond (n == 3) SimplexTransmit SimplexReceive)))
 
+-- a code that is reserved gives none
+abbrev pub GivesDuplex : ℕ → Result Duplex ReservedCode → Type 0
+GivesDuplex n r = r ≡ (if nat_le n 4 then Ok (duplex_of n) else Err (record {}))
+
 abbrev pub modulation_code : Modulation → ℕ
 modulation_code BiPhaseL = 0
 modulation_code Gmsk = 1
 
 abbrev pub modulation_of : ℕ → Modulation
 modulation_of n = cond (n == 0) BiPhaseL Gmsk
+
+abbrev pub GivesModulation : ℕ → Result Modulation ReservedCode → Type 0
+GivesModulation n r = r ≡ (if nat_le n 1 then Ok (modulation_of n) else Err (record {}))
 
 abbrev pub coding_code : Coding → ℕ
 coding_code Uncoded = 0
@@ -41,6 +50,9 @@ coding_of n = cond (n == 0) Uncoded (cond (n == 1) Ldpc2048 (cond (n == 5) Ldpc6
 
 abbrev pub coding_allowed : ℕ → Bool
 coding_allowed v = v == 0 || (v == 1 || (v == 5 || v == 10))
+
+abbrev pub GivesCoding : ℕ → Result Coding ReservedCode → Type 0
+GivesCoding n r = r ≡ (if coding_allowed n then Ok (coding_of n) else Err (record {}))
 
 -- a binary32 without a sign that is neither infinite nor no number
 abbrev pub frequency_allowed : ℕ → Bool

@@ -1,5 +1,6 @@
 -- The rules of a directive's fields.
 use Rattle.std.specs.Prelude.{ℕ, ◌+◌, ◌/◌, Bool, true, cond, List, [], ◌∷◌, map, Some, None, Ok, Err, Option, Result, ◌==◌}
+use Rattle.bits.specs.Codec.{carry}
 use Rattle.directive.specs.declared.fault.SpduFault.{SpduFault}
 use Rattle.directive.specs.declared.fault.SpduFault.TheVariants.{Reserved, Range}
 
@@ -43,3 +44,7 @@ verdict at None None = Ok tt
 -- what a directive's fields with these values answer
 abbrev pub judged : ℕ → List Rule → List ℕ → Result (Unit {0}) SpduFault
 judged at rules vs = verdict at (leftmost (λ r. r.code) rules 0 vs) (leftmost (λ r. r.range) rules 0 vs)
+
+-- the value that fields make which are judged well; octets count from the directive's first
+abbrev pub allowed : {V : Type 0} → List Rule → List ℕ → V → Result V SpduFault
+allowed rules vs v = carry (judged 0 rules vs) (λ _. Ok v)

@@ -1,26 +1,26 @@
 //! Reading and writing directives.
-ghost use Rattle.std.specs.Prelude.{◌≡◌, ◌^◌, ◌<◌, take, drop, IfOk, if◌then◌else◌, Some, None, Ok, Err, nat_eq};
+ghost use Rattle.std.specs.Prelude.{◌≡◌, drop, take, IfOk, if◌then◌else◌, Some, None, Ok};
 ghost use Rattle.bits.specs.Codec.{write_answer, written};
-ghost use Rattle.bits.specs.Layout.{cut};
-ghost use Rattle.directive.specs.Directive.{Within, directive_fits, directive_of, directive_word, encoded_directive, front, name_for, name_of, read_directive, rules_of, size_of};
-ghost use Rattle.directive.specs.Rule.{judged, layout};
-ghost use Rattle.directive.specs.declared.fault.SpduFault.TheVariants.{Reserved};
+ghost use Rattle.directive.specs.Directive.{GivesName, Within, directive_fits, directive_in, directive_word, encoded_directive, first_directive, front, name_for, read_directive, size_of};
+ghost use Rattle.directive.specs.declared.fault.SpduFault.TheVariants.{Buffer};
 
 use super::fault::SpduFault;
-use super::link::{LinkEstablishment, bit, judge_link, link_of, link_word};
-use bits::{assemble, field, octets_of, put_first, word};
+use super::link::{LinkEstablishment, link_of, link_word};
+use super::packed::{Packed, write_packed};
+use super::reserved::{ReservedCode, spare};
+use bits::{Encode, assemble, field, is_set, word};
 
 /// The name of a directive.
 #[derive(Clone, Copy, PartialEq, Eq, Debug)]
 pub enum Name {
-    LinkEstablishment,
-    ReportRequest,
-    SetVr,
-    SourceId,
+    LinkEstablishment = 0,
+    ReportRequest = 1,
+    SetVr = 2,
+    SourceId = 3,
 }
 
 /// A request for reports.
-#[derive(Clone, Copy)]
+#[derive(Clone, Copy, PartialEq, Eq, Debug)]
 pub struct ReportRequest {
     /// A report (PLCW) is wanted for physical channel 0.
     pub channel0: bool,
@@ -33,7 +33,7 @@ pub struct ReportRequest {
 }
 
 /// A directive by its fields.
-#[derive(Clone, Copy)]
+#[derive(Clone, Copy, PartialEq, Eq, Debug)]
 pub enum Directive {
     LinkEstablishment(LinkEstablishment),
     ReportRequest(ReportRequest),
@@ -43,15 +43,19 @@ pub enum Directive {
     SourceId(u16),
 }
 
-fn name_of(bits: u128) -> Option<Name>
-    ensures { result ≡ name_of bits }
-{
-    match bits {
-        0 => Some(Name::LinkEstablishment),
-        1 => Some(Name::ReportRequest),
-        2 => Some(Name::SetVr),
-        3 => Some(Name::SourceId),
-        _ => None,
+impl TryFrom<u8> for Name {
+    type Error = ReservedCode;
+
+    ghost try_from_gives = { GivesName };
+
+    fn try_from(code: u8) -> Result<Self, ReservedCode> {
+        match code {
+            0 => Ok(Name::LinkEstablishment),
+            1 => Ok(Name::ReportRequest),
+            2 => Ok(Name::SetVr),
+            3 => Ok(Name::SourceId),
+            _ => Err(ReservedCode),
+        }
     }
 }
 
@@ -69,36 +73,21 @@ impl Name {
     }
 }
 
-// The directive with that name and these bits, which were judged before.
-fn directive_of(name: Name, word: u128) -> Directive
-    ensures { result ≡ directive_of name (cut (layout (rules_of name)) word) }
-{
-    match name {
-        Name::LinkEstablishment => Directive::LinkEstablishment(link_of(word)),
-        Name::ReportRequest => Directive::ReportRequest(ReportRequest {
-            channel0: field(word, 12, 1) == 1,
-            channel1: field(word, 11, 1) == 1,
-            time_tags: field(word, 5, 6) as u8,
-            status: field(word, 0, 5) as u8,
-        }),
-        Name::SetVr => Directive::SetVr(field(word, 0, 8) as u8),
-        Name::SourceId => Directive::SourceId(field(word, 0, 16) as u16),
+impl Directive {
+    /// The name of a directive.
+    pub fn name(self) -> Name
+        ensures { result ≡ name_for self }
+    {
+        match self {
+            Directive::LinkEstablishment(_) => Name::LinkEstablishment,
+            Directive::ReportRequest(_) => Name::ReportRequest,
+            Directive::SetVr(_) => Name::SetVr,
+            Directive::SourceId(_) => Name::SourceId,
+        }
     }
 }
 
-/// The name of a directive.
-pub fn name_for(directive: Directive) -> Name
-    ensures { result ≡ name_for directive }
-{
-    match directive {
-        Directive::LinkEstablishment(_) => Name::LinkEstablishment,
-        Directive::ReportRequest(_) => Name::ReportRequest,
-        Directive::SetVr(_) => Name::SetVr,
-        Directive::SourceId(_) => Name::SourceId,
-    }
-}
-
-// The bits of a directive. None where a value is wider than its field.
+// The word of a directive's fields. None where a value is wider than its field.
 fn directive_word(directive: Directive) -> Option<u128>
     ensures { result ≡ (if directive_fits directive then Some (directive_word directive) else None) }
 {
@@ -106,57 +95,86 @@ fn directive_word(directive: Directive) -> Option<u128>
         Directive::LinkEstablishment(link) => link_word(link),
         Directive::ReportRequest(request) => assemble(&[
             (3, 1),
-            (1, bit(request.channel0)),
-            (1, bit(request.channel1)),
-            (6, request.time_tags as u128),
-            (5, request.status as u128),
+            (1, u128::from(request.channel0)),
+            (1, u128::from(request.channel1)),
+            (6, u128::from(request.time_tags)),
+            (5, u128::from(request.status)),
         ]),
-        Directive::SetVr(number) => assemble(&[(3, 2), (5, 0), (8, number as u128)]),
-        Directive::SourceId(id) => assemble(&[(3, 3), (13, 0), (16, id as u128)]),
+        Directive::SetVr(number) => assemble(&[(3, 2), (5, 0), (8, u128::from(number))]),
+        Directive::SourceId(id) => assemble(&[(3, 3), (13, 0), (16, u128::from(id))]),
     }
 }
 
-// What spare bits answer in the first field after the name.
-fn judge_spare(bits: u128, at: usize) -> Result<(), SpduFault>
-    ensures { result ≡ (if nat_eq bits 0 then Ok tt else Err (Reserved at)) }
-{
-    if bits == 0 {
-        Ok(())
-    } else {
-        Err(SpduFault::Reserved(at))
+impl Packed for Directive {
+    ghost fits = { directive_fits };
+
+    ghost word = { directive_word };
+
+    ghost size = { λ d. size_of (name_for d) };
+
+    ghost read = { read_directive };
+
+    fn word(self) -> Option<u128> {
+        directive_word(self)
+    }
+
+    fn size(self) -> usize {
+        self.name().size()
+    }
+
+    fn read(octets: &[u8]) -> Result<Self, SpduFault> {
+        read_directive(octets)
     }
 }
 
-// What the fields of a directive answer that starts at the octet `at` of its unit.
-fn judge(name: Name, word: u128, at: usize) -> Result<(), SpduFault>
-    requires { at < 2 ^ 63 }
-    ensures { result ≡ judged at (rules_of name) (cut (layout (rules_of name)) word) }
+impl Encode for Directive {
+    type Fault = SpduFault;
+
+    ghost encoded = { encoded_directive };
+
+    ghost no_room = { Buffer };
+
+    fn write(self, buffer: &mut [u8]) -> Result<usize, SpduFault> {
+        write_directive(self, buffer)
+    }
+}
+
+// The directive with that name and these bits.
+fn directive_of(name: Name, word: u128) -> Result<Directive, SpduFault>
+    ensures { result ≡ directive_in name word }
 {
     match name {
-        Name::LinkEstablishment => judge_link(word, at),
-        Name::ReportRequest => Ok(()),
-        Name::SetVr => judge_spare(field(word, 8, 5), at),
-        Name::SourceId => judge_spare(field(word, 16, 13), at),
+        Name::LinkEstablishment => Ok(Directive::LinkEstablishment(link_of(word)?)),
+        Name::ReportRequest => Ok(Directive::ReportRequest(ReportRequest {
+            channel0: is_set(word, 12),
+            channel1: is_set(word, 11),
+            time_tags: field(word, 5, 6) as u8,
+            status: field(word, 0, 5) as u8,
+        })),
+        Name::SetVr => {
+            spare(field(word, 8, 5), 0)?;
+            Ok(Directive::SetVr(field(word, 0, 8) as u8))
+        }
+        Name::SourceId => {
+            spare(field(word, 16, 13), 0)?;
+            Ok(Directive::SourceId(field(word, 0, 16) as u16))
+        }
     }
 }
 
-// The name of the directive that these octets begin with, the first being the octet `at` of its unit.
-fn front_of(octets: &[u8], at: usize) -> Result<Option<Name>, SpduFault>
-    requires { at < 2 ^ 63 }
-    ensures { result ≡ front at octets.now }
+// The directive that these octets begin with.
+fn first_directive(octets: &[u8]) -> Result<Option<Directive>, SpduFault>
+    ensures { result ≡ first_directive octets.now }
 {
     let [first, ..] = octets else {
         return Ok(None);
     };
-    let Some(name) = name_of(u128::from(first >> 5)) else {
-        return Err(SpduFault::Reserved(at));
-    };
+    let name = Name::try_from(first >> 5).map_err(|_| SpduFault::Reserved(0))?;
     let size = name.size();
     if octets.len() < size {
-        return Err(SpduFault::Cut(at));
+        return Err(SpduFault::Cut(0));
     }
-    judge(name, word(&octets[0..size]), at)?;
-    Ok(Some(name))
+    Ok(Some(directive_of(name, word(&octets[0..size]))?))
 }
 
 /// The name of the directive that starts at the octet `at` of a unit, once its fields are tried. None where the unit
@@ -168,7 +186,10 @@ pub fn directive_at(unit: &[u8], at: usize) -> Result<Option<Name>, SpduFault>
     if at >= unit.len() {
         return Ok(None);
     }
-    front_of(&unit[at..], at)
+    match first_directive(&unit[at..]) {
+        Ok(directive) => Ok(directive.map(|found| found.name())),
+        Err(fault) => Err(fault.moved(at)),
+    }
 }
 
 /// The directive that these octets are, no fewer and no more. Octets of a fault count from its first.
@@ -176,13 +197,11 @@ pub fn read_directive(octets: &[u8]) -> Result<Directive, SpduFault>
     ensures answer { result ≡ read_directive octets.now }
     ensures undone { IfOk result (λ d. encoded_directive d ≡ Ok octets.now) }
 {
-    let Some(name) = front_of(octets, 0)? else {
-        return Err(SpduFault::Length);
-    };
-    if octets.len() != name.size() {
+    let directive = first_directive(octets)?.ok_or(SpduFault::Length)?;
+    if octets.len() != directive.name().size() {
         return Err(SpduFault::Length);
     }
-    Ok(directive_of(name, word(octets)))
+    Ok(directive)
 }
 
 /// Puts the octets of a directive first into the buffer, and answers how many they are. The rest of the buffer stays.
@@ -191,11 +210,5 @@ pub fn write_directive(directive: Directive, buffer: &mut [u8]) -> Result<usize,
     ensures after { buffer.new ≡ written (encoded_directive directive) buffer.old }
     ensures undone { IfOk result (λ n. read_directive (take n buffer.new) ≡ Ok directive) }
 {
-    let Some(word) = directive_word(directive) else {
-        return Err(SpduFault::TooWide);
-    };
-    let all = octets_of(word);
-    let octets = &all[16 - name_for(directive).size()..];
-    read_directive(octets)?;
-    put_first(octets, buffer).ok_or(SpduFault::Buffer)
+    write_packed(directive, buffer)
 }

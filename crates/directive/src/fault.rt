@@ -1,5 +1,6 @@
 //! What the layer of supervisory units refuses.
-ghost use Rattle.directive.specs.Fault.{spdu_fault};
+ghost use Rattle.std.specs.Prelude.{◌≡◌, ◌+◌, ◌^◌, ◌<◌};
+ghost use Rattle.directive.specs.Fault.{moved, spdu_fault};
 
 use refusal::{Fault, Layer};
 use std::fmt;
@@ -23,9 +24,25 @@ pub enum SpduFault {
     Buffer,
 }
 
+impl SpduFault {
+    /// The same fault in a unit of which the octets that were read start at this octet.
+    pub(crate) fn moved(self, start: usize) -> SpduFault
+        requires { (spdu_fault self).octet + start < 2 ^ 64 }
+        ensures { result ≡ moved start self }
+    {
+        match self {
+            SpduFault::Cut(at) => SpduFault::Cut(start + at),
+            SpduFault::Reserved(at) => SpduFault::Reserved(start + at),
+            SpduFault::Range(at) => SpduFault::Range(start + at),
+            SpduFault::Length | SpduFault::Kind | SpduFault::TooWide | SpduFault::Buffer => self,
+        }
+    }
+}
+
 impl Fault for SpduFault {
     ghost told = { spdu_fault };
 
+    // By a match, since cases that hold an octet take no number of their own.
     fn number(&self) -> u8 {
         match self {
             SpduFault::Length => 6,

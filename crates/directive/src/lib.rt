@@ -8,4 +8,7 @@
 pub mod directive;
 pub mod fault;
 pub mod link;
+pub mod packed;
 pub mod rate;
+pub mod reserved;
+mod text;

@@ -1,39 +1,40 @@
 //! The link establishment directive, 96 bits.
-ghost use Rattle.std.specs.Prelude.{◌≡◌, ◌^◌, ◌<◌, if◌then◌else◌, Some, None};
+ghost use Rattle.std.specs.Prelude.{◌≡◌, if◌then◌else◌, Some, None};
 ghost use Rattle.bits.specs.Layout.{cut, fits, join};
-ghost use Rattle.directive.specs.Link.{coding_allowed, coding_code, coding_of, duplex_code, duplex_of, flag, link_fields, link_of, link_rules, modulation_code, modulation_of};
-ghost use Rattle.directive.specs.Rule.{judged, layout};
+ghost use Rattle.directive.specs.Link.{GivesCoding, GivesDuplex, GivesModulation, coding_code, duplex_code, link_fields, link_of, link_rules, modulation_code};
+ghost use Rattle.directive.specs.Rule.{allowed, layout};
 
 use super::fault::SpduFault;
 use super::rate::rate_is_allowed;
-use bits::{assemble, field};
+use super::reserved::{ReservedCode, spare};
+use bits::{assemble, field, is_set};
 
 /// In which directions the responder may communicate.
 #[derive(Clone, Copy, PartialEq, Eq, Debug)]
 pub enum Duplex {
-    NoChange,
-    Full,
-    Half,
-    SimplexTransmit,
-    SimplexReceive,
+    NoChange = 0,
+    Full = 1,
+    Half = 2,
+    SimplexTransmit = 3,
+    SimplexReceive = 4,
 }
 
 #[derive(Clone, Copy, PartialEq, Eq, Debug)]
 pub enum Modulation {
-    BiPhaseL,
-    Gmsk,
+    BiPhaseL = 0,
+    Gmsk = 1,
 }
 
 #[derive(Clone, Copy, PartialEq, Eq, Debug)]
 pub enum Coding {
-    Uncoded,
-    Ldpc2048,
-    Ldpc6144,
-    Ldpc8160,
+    Uncoded = 0,
+    Ldpc2048 = 1,
+    Ldpc6144 = 5,
+    Ldpc8160 = 10,
 }
 
 /// The fields of the directive, but for its name and the spares.
-#[derive(Clone, Copy)]
+#[derive(Clone, Copy, PartialEq, Eq, Debug)]
 pub struct LinkEstablishment {
     /// The link from caller to responder, and not the return link.
     pub forward: bool,
@@ -61,125 +62,113 @@ pub struct LinkEstablishment {
     pub frequency: u32,
 }
 
-// A flag as the bit of its field.
-pub(crate) fn bit(set: bool) -> u128
-    ensures { result ≡ flag set }
-{
-    set as u128
-}
+impl From<Duplex> for u128 {
+    ghost from_gives = { λ duplex code. code ≡ duplex_code duplex };
 
-fn duplex_of(bits: u128) -> Duplex
-    ensures { result ≡ duplex_of bits }
-{
-    match bits {
-        0 => Duplex::NoChange,
-        1 => Duplex::Full,
-        2 => Duplex::Half,
-        3 => Duplex::SimplexTransmit,
-        _ => Duplex::SimplexReceive,
+    fn from(duplex: Duplex) -> u128 {
+        duplex as u128
     }
 }
 
-fn modulation_of(bits: u128) -> Modulation
-    ensures { result ≡ modulation_of bits }
-{
-    if bits == 0 {
-        Modulation::BiPhaseL
-    } else {
-        Modulation::Gmsk
+impl TryFrom<u128> for Duplex {
+    type Error = ReservedCode;
+
+    ghost try_from_gives = { GivesDuplex };
+
+    fn try_from(code: u128) -> Result<Self, ReservedCode> {
+        match code {
+            0 => Ok(Duplex::NoChange),
+            1 => Ok(Duplex::Full),
+            2 => Ok(Duplex::Half),
+            3 => Ok(Duplex::SimplexTransmit),
+            4 => Ok(Duplex::SimplexReceive),
+            _ => Err(ReservedCode),
+        }
     }
 }
 
-fn coding_of(bits: u128) -> Coding
-    ensures { result ≡ coding_of bits }
-{
-    match bits {
-        0 => Coding::Uncoded,
-        1 => Coding::Ldpc2048,
-        5 => Coding::Ldpc6144,
-        _ => Coding::Ldpc8160,
+impl From<Modulation> for u128 {
+    ghost from_gives = { λ modulation code. code ≡ modulation_code modulation };
+
+    fn from(modulation: Modulation) -> u128 {
+        modulation as u128
     }
 }
 
-fn duplex_code(duplex: Duplex) -> u128
-    ensures { result ≡ duplex_code duplex }
-{
-    duplex as u128
-}
+impl TryFrom<u128> for Modulation {
+    type Error = ReservedCode;
 
-fn modulation_code(modulation: Modulation) -> u128
-    ensures { result ≡ modulation_code modulation }
-{
-    modulation as u128
-}
+    ghost try_from_gives = { GivesModulation };
 
-// The code is the field's own, which leaves gaps.
-fn coding_code(coding: Coding) -> u128
-    ensures { result ≡ coding_code coding }
-{
-    match coding {
-        Coding::Uncoded => 0,
-        Coding::Ldpc2048 => 1,
-        Coding::Ldpc6144 => 5,
-        Coding::Ldpc8160 => 10,
+    fn try_from(code: u128) -> Result<Self, ReservedCode> {
+        match code {
+            0 => Ok(Modulation::BiPhaseL),
+            1 => Ok(Modulation::Gmsk),
+            _ => Err(ReservedCode),
+        }
     }
 }
 
-fn coding_is_allowed(bits: u128) -> bool
-    ensures { result ≡ coding_allowed bits }
-{
-    bits == 0 || bits == 1 || bits == 5 || bits == 10
+impl From<Coding> for u128 {
+    ghost from_gives = { λ coding code. code ≡ coding_code coding };
+
+    fn from(coding: Coding) -> u128 {
+        coding as u128
+    }
 }
 
-/// What the fields of a directive with these 96 bits answer, which starts at the octet `at` of its unit.
-pub(crate) fn judge_link(word: u128, at: usize) -> Result<(), SpduFault>
-    requires { at < 2 ^ 63 }
-    ensures { result ≡ judged at link_rules (cut (layout link_rules) word) }
-{
-    if field(word, 92, 1) != 0 {
-        return Err(SpduFault::Reserved(at));
+impl TryFrom<u128> for Coding {
+    type Error = ReservedCode;
+
+    ghost try_from_gives = { GivesCoding };
+
+    fn try_from(code: u128) -> Result<Self, ReservedCode> {
+        match code {
+            0 => Ok(Coding::Uncoded),
+            1 => Ok(Coding::Ldpc2048),
+            5 => Ok(Coding::Ldpc6144),
+            10 => Ok(Coding::Ldpc8160),
+            _ => Err(ReservedCode),
+        }
     }
-    if field(word, 84, 3) > 4 || field(word, 80, 2) != 0 {
-        return Err(SpduFault::Reserved(at + 1));
-    }
-    if field(word, 76, 4) > 1 || field(word, 72, 1) != 0 {
-        return Err(SpduFault::Reserved(at + 2));
-    }
-    if !coding_is_allowed(field(word, 66, 6)) || field(word, 64, 2) != 0 {
-        return Err(SpduFault::Reserved(at + 3));
-    }
-    if field(word, 48, 8) != 0 {
-        return Err(SpduFault::Reserved(at + 5));
-    }
-    if !rate_is_allowed(field(word, 32, 16) as u16) {
-        return Err(SpduFault::Range(at + 6));
-    }
-    if field(word, 0, 32) >= 0x7f80_0000 {
-        return Err(SpduFault::Range(at + 8));
-    }
-    Ok(())
 }
 
-/// The directive with these 96 bits, which were judged before.
-pub(crate) fn link_of(word: u128) -> LinkEstablishment
-    ensures { result ≡ link_of (cut (layout link_rules) word) }
+/// The directive with these 96 bits. Octets of a fault count from its first.
+pub(crate) fn link_of(word: u128) -> Result<LinkEstablishment, SpduFault>
+    ensures { let fields = cut (layout link_rules) word in result ≡ allowed link_rules fields (link_of fields) }
 {
-    LinkEstablishment {
-        forward: field(word, 91, 1) == 1,
-        query: field(word, 90, 1) == 1,
-        rejected: field(word, 89, 1) == 1,
-        no_more_data: field(word, 88, 1) == 1,
-        transmit: field(word, 87, 1) == 1,
-        duplex: duplex_of(field(word, 84, 3)),
-        right_hand: field(word, 83, 1) == 1,
-        non_coherent: field(word, 82, 1) == 1,
-        modulation: modulation_of(field(word, 76, 4)),
+    spare(field(word, 92, 1), 0)?;
+    let duplex = Duplex::try_from(field(word, 84, 3)).map_err(|_| SpduFault::Reserved(1))?;
+    spare(field(word, 80, 2), 1)?;
+    let modulation = Modulation::try_from(field(word, 76, 4)).map_err(|_| SpduFault::Reserved(2))?;
+    spare(field(word, 72, 1), 2)?;
+    let coding = Coding::try_from(field(word, 66, 6)).map_err(|_| SpduFault::Reserved(3))?;
+    spare(field(word, 64, 2), 3)?;
+    spare(field(word, 48, 8), 5)?;
+    let symbol_rate = field(word, 32, 16) as u16;
+    if !rate_is_allowed(symbol_rate) {
+        return Err(SpduFault::Range(6));
+    }
+    let frequency = field(word, 0, 32) as u32;
+    if frequency >= 0x7f80_0000 {
+        return Err(SpduFault::Range(8));
+    }
+    Ok(LinkEstablishment {
+        forward: is_set(word, 91),
+        query: is_set(word, 90),
+        rejected: is_set(word, 89),
+        no_more_data: is_set(word, 88),
+        transmit: is_set(word, 87),
+        duplex,
+        right_hand: is_set(word, 83),
+        non_coherent: is_set(word, 82),
+        modulation,
         modulation_index: field(word, 73, 3) as u8,
-        coding: coding_of(field(word, 66, 6)),
+        coding,
         signal_to_noise: field(word, 56, 8) as u8,
-        symbol_rate: field(word, 32, 16) as u16,
-        frequency: field(word, 0, 32) as u32,
-    }
+        symbol_rate,
+        frequency,
+    })
 }
 
 /// The 96 bits of a directive. None where a value is wider than its field.
@@ -189,23 +178,23 @@ pub(crate) fn link_word(link: LinkEstablishment) -> Option<u128>
     assemble(&[
         (3, 0),
         (1, 0),
-        (1, bit(link.forward)),
-        (1, bit(link.query)),
-        (1, bit(link.rejected)),
-        (1, bit(link.no_more_data)),
-        (1, bit(link.transmit)),
-        (3, duplex_code(link.duplex)),
-        (1, bit(link.right_hand)),
-        (1, bit(link.non_coherent)),
+        (1, u128::from(link.forward)),
+        (1, u128::from(link.query)),
+        (1, u128::from(link.rejected)),
+        (1, u128::from(link.no_more_data)),
+        (1, u128::from(link.transmit)),
+        (3, u128::from(link.duplex)),
+        (1, u128::from(link.right_hand)),
+        (1, u128::from(link.non_coherent)),
         (2, 0),
-        (4, modulation_code(link.modulation)),
-        (3, link.modulation_index as u128),
+        (4, u128::from(link.modulation)),
+        (3, u128::from(link.modulation_index)),
         (1, 0),
-        (6, coding_code(link.coding)),
+        (6, u128::from(link.coding)),
         (2, 0),
-        (8, link.signal_to_noise as u128),
+        (8, u128::from(link.signal_to_noise)),
         (8, 0),
-        (16, link.symbol_rate as u128),
-        (32, link.frequency as u128),
+        (16, u128::from(link.symbol_rate)),
+        (32, u128::from(link.frequency)),
     ])
 }

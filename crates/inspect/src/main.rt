@@ -8,7 +8,6 @@ mod frames;
 mod hexadecimal;
 mod inspector;
 mod names;
-mod records;
 mod refusals;
 mod totals;
 mod units;

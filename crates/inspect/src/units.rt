@@ -4,7 +4,6 @@ ghost use Rattle.spdu.specs.Item.{item_octets, item_value};
 
 use super::hexadecimal::Hexadecimal;
 use super::names::octets_name;
-use super::records::{print_directive, print_report};
 use super::refusals::print_refusal;
 use directive::fault::SpduFault;
 use inspection::rewriting::{directive_is, report_is, spdu_is};
@@ -49,43 +48,53 @@ fn print_rewritten(rt: &HostRuntime, same: bool) -> io::Result<()> {
     println!(rt; "   written again: DIFFERENT octets")
 }
 
-fn print_item(rt: &HostRuntime, item: Item<'_>) -> io::Result<Result<(), SpduFault>> {
-    match item.fields() {
-        Ok(Fields::Report(report)) => {
-            print_report(rt, report)?;
+// Why the printing of a unit stops before its end.
+#[derive(Drop)]
+enum Stop {
+    Output(io::Error),
+    Refusal(SpduFault),
+}
+
+impl From<io::Error> for Stop {
+    fn from(error: io::Error) -> Stop {
+        Stop::Output(error)
+    }
+}
+
+impl From<SpduFault> for Stop {
+    fn from(fault: SpduFault) -> Stop {
+        Stop::Refusal(fault)
+    }
+}
+
+fn print_item(rt: &HostRuntime, item: Item<'_>) -> Result<(), Stop> {
+    // Never refused, since the reader of items has tried this one.
+    match item.fields()? {
+        Fields::Report(report) => {
+            println!(rt; "   report: {report}")?;
             print_rewritten(rt, report_is(report, octets_of(item)))?;
         }
-        Ok(Fields::Octets(octets)) => print_octets(rt, item, octets)?,
-        Ok(Fields::Directive(directive)) => {
-            print_directive(rt, directive)?;
+        Fields::Octets(octets) => print_octets(rt, item, octets)?,
+        Fields::Directive(directive) => {
+            println!(rt; "   {directive}")?;
             print_rewritten(rt, directive_is(directive, octets_of(item)))?;
         }
-        // Never so, since the reader of items has tried this one.
-        Err(fault) => return Ok(Err(fault)),
     }
-    Ok(Ok(()))
+    Ok(())
 }
 
 // Prints the items of a unit up to its end, or to the fault at which the reading stops.
-fn print_items(rt: &HostRuntime, unit: &[u8]) -> io::Result<Result<(), SpduFault>> {
+fn print_items(rt: &HostRuntime, unit: &[u8]) -> Result<(), Stop> {
     let mut items = Items::new(unit);
     let mut empty = true;
-    loop {
-        match items.next() {
-            Ok(Some(item)) => {
-                empty = false;
-                if let Err(fault) = print_item(rt, item)? {
-                    return Ok(Err(fault));
-                }
-            }
-            Ok(None) => break,
-            Err(fault) => return Ok(Err(fault)),
-        }
+    while let Some(item) = items.next()? {
+        empty = false;
+        print_item(rt, item)?;
     }
     if empty {
         println!(rt; "   no directive")?;
     }
-    Ok(Ok(()))
+    Ok(())
 }
 
 // The checker and the reading of whole units go through the unit by themselves, and have to come to the same end.
@@ -101,7 +110,11 @@ fn print_checked(rt: &HostRuntime, unit: &[u8], told: Result<(), SpduFault>) -> 
 
 /// Prints what a supervisory unit says, and hands on its refusal.
 pub(crate) fn print_unit(rt: &HostRuntime, unit: &[u8]) -> io::Result<Result<(), SpduFault>> {
-    let told = print_items(rt, unit)?;
+    let told = match print_items(rt, unit) {
+        Ok(()) => Ok(()),
+        Err(Stop::Refusal(fault)) => Err(fault),
+        Err(Stop::Output(error)) => return Err(error),
+    };
     if let Err(fault) = told {
         print!(rt; "   ")?;
         print_refusal(rt, &fault)?;

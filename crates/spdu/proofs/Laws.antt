@@ -18,7 +18,7 @@ use Rattle.spdu.specs.declared.item.SpduType.TheVariants.{Type1, Type2, Type3, T
 
 -- one directive, and then the rest by what holds of any rest
 first_joined : (at x : ℕ) (o : List ℕ) (r : Result (Option Name) SpduFault) → ((k : ℕ) → (directives k (at + 1) o).ends ≡ Ok tt → flat_map item_octets (directives k (at + 1) o).items ≡ drop k o) → front at (x ∷ o) ≡ r → (begins r (x ∷ o) (λ n. directives (size_of n - 1) (at + 1) o)).ends ≡ Ok tt → flat_map item_octets (begins r (x ∷ o) (λ n. directives (size_of n - 1) (at + 1) o)).items ≡ x ∷ o
-first_joined at x o (Err e) rest f q = absurd (let z : ◌≡◌ {A = ℕ} 0 1 = cc in omega arith)
+first_joined at x o (Err e) rest f q = cc
 first_joined at x o (Ok None) rest f q = absurd (never_none at x o f)
 first_joined at x o (Ok (Some n)) rest f q =
     let more : suc (size_of n - 1) ≡ size_of n = omega (arith, size_positive n) in
@@ -95,7 +95,7 @@ pub items_joined : (o : List ℕ) → JoinedIn o (reading o)
 items_joined o = by (opened o) (opening o)
   where
     by : (k : Result ContentValue SpduFault) → Opening o k → JoinedIn o (read k)
-    by k (refused e) h = absurd (let z : ◌≡◌ {A = ℕ} 0 1 = cc in omega arith)
+    by k (refused e) h = cc
     by k (holds c f s) h = content_joined c h ∙ f
 
 pub items_sound : (o : List ℕ) → Sound (reading o)

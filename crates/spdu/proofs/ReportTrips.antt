@@ -4,29 +4,21 @@ use Rattle.std.proofs.lemmas.Bool.{eq-eqb, eqb-true}
 use Rattle.std.proofs.lemmas.Bool.Decides.{nat_tests}
 use Rattle.bits.specs.Codec.{encoding}
 use Rattle.bits.specs.Layout.{cut, join, fits, octets, number}
-use Rattle.bits.proofs.Codecs.{granted}
 use Rattle.bits.proofs.Layouts.{join_below, cut_undoes_join, join_undoes_cut, cut_fits, number_cut, cut_number, number_octets}
-use Rattle.directive.specs.Link.{flag}
+use Rattle.directive.proofs.Kept.{flag_back, flag_kept}
 use Rattle.directive.specs.declared.fault.SpduFault.{SpduFault}
 use Rattle.directive.specs.declared.fault.SpduFault.TheVariants as fault
-use Rattle.spdu.specs.Report.{report_layout, report_fields, report_of, report_with, read_report, report_octets, encoded_report}
+use Rattle.spdu.specs.Report.{report_layout, report_fields, report_fits, report_word, report_of, report_with, read_report, report_octets, encoded_report}
 use Rattle.spdu.specs.declared.report.Report.{Report}
-
-flag_back : (b : Bool) → eqb (flag b) 1 ≡ b
-flag_back true = refl
-flag_back false = refl
-
-flag_kept : (n : ℕ) → n < 2 → flag (eqb n 1) ≡ n
-flag_kept n h = grind (arith, nat_tests)
 
 -- two octets with bits 10 are judged by their fields
 pub two_octets : (x y : ℕ) (r : Result Report SpduFault) → eqb (x / 64) 2 ≡ true → r ≡ report_with (cut report_layout (number (x ∷ y ∷ []))) → r ≡ read_report (x ∷ y ∷ [])
 two_octets x y r h e = e ∙ sym (ap (λ t. cond t (report_with (cut report_layout (number (x ∷ y ∷ [])))) (Err fault.Kind)) h)
 
 -- what reading answers at a report's own octets
-pub own_octets : (r : Report) → fits report_layout (report_fields r) ≡ true → read_report (report_octets r) ≡ Ok r
+pub own_octets : (r : Report) → report_fits r ≡ true → read_report (report_octets r) ≡ Ok r
 own_octets r h =
-    let w = join report_layout (report_fields r) in
+    let w = report_word r in
     let fields : cut report_layout w ≡ report_fields r = cut_undoes_join report_layout (report_fields r) h in
     let kind : w / 2 ^ 14 % 2 ^ 2 ≡ 2 = ap (λ fs. get_or fs 0 0) fields in
     let first : eqb (w / 2 ^ 8 % 2 ^ 8 / 64) 2 ≡ true = eq-eqb (w / 2 ^ 8 % 2 ^ 8 / 64) 2 (omega (arith, kind)) in
@@ -34,12 +26,6 @@ own_octets r h =
     ∙ ap (λ n. report_with (cut report_layout n)) (number_cut 2 w (join_below report_layout (report_fields r) h))
     ∙ ap report_with fields
     ∙ rw (flag_back r.retransmit)
-
--- reading undoes writing
-pub reading_undoes : (r : Report) (o : List ℕ) → encoded_report r ≡ Ok o → read_report o ≡ Ok r
-reading_undoes r o h =
-    let g = granted fault.TooWide (fits report_layout (report_fields r)) (report_octets r) (read_report (report_octets r)) o h in
-    ap read_report (sym g.same) ∙ own_octets r g.fits
 
 -- what a report that was read says of its octets
 record Taken (x y : ℕ) (r : Report) : Type 0 where
@@ -49,22 +35,22 @@ record Taken (x y : ℕ) (r : Report) : Type 0 where
 
 with_ok : (fs : List ℕ) (t : Bool) (r : Report) → eqb (get_or fs 3 0) 0 ≡ t → cond t (Ok (report_of fs)) (Err (fault.Reserved 0)) ≡ Ok r → (get_or fs 3 0 ≡ 0) × (r ≡ report_of fs)
 with_ok fs true r e h = (eqb-true (get_or fs 3 0) 0 e, cc)
-with_ok fs false r e h = absurd (let z : ◌≡◌ {A = ℕ} 0 1 = cc in omega arith)
+with_ok fs false r e h = cc
 
 taken : (x y : ℕ) (t : Bool) (r : Report) → eqb (x / 64) 2 ≡ t → cond t (report_with (cut report_layout (number (x ∷ y ∷ [])))) (Err fault.Kind) ≡ Ok r → Taken x y r
 taken x y true r e h =
     let fs = cut report_layout (number (x ∷ y ∷ [])) in
     let g = with_ok fs (eqb (get_or fs 3 0) 0) r refl h in
     record { kind = eqb-true (x / 64) 2 e; spare = g.0; is = g.1 }
-taken x y false r e h = absurd (let z : ◌≡◌ {A = ℕ} 0 1 = cc in omega arith)
+taken x y false r e h = cc
 
 never : (x : ℕ) (a b : Result Report SpduFault) (t : Bool) (e f : SpduFault) (r : Report) → a ≡ Err e → b ≡ Err f → cond t a b ≡ Ok r → ⊥
-never x a b true e f r p q h = let z : ◌≡◌ {A = ℕ} 0 1 = cc in omega arith
-never x a b false e f r p q h = let z : ◌≡◌ {A = ℕ} 0 1 = cc in omega arith
+never x a b true e f r p q h = cc
+never x a b false e f r p q h = cc
 
 -- writing undoes reading
 pub writing_undoes : (o : List ℕ) (r : Report) → ((i : ℕ) → get_or o i 0 < 256) → read_report o ≡ Ok r → encoded_report r ≡ Ok o
-writing_undoes [] r t h = absurd (let z : ◌≡◌ {A = ℕ} 0 1 = cc in omega arith)
+writing_undoes [] r t h = cc
 writing_undoes (x ∷ []) r t h = absurd (never x (Err fault.Length) (Err fault.Kind) (eqb (x / 64) 2) fault.Length fault.Kind r refl refl h)
 writing_undoes (x ∷ y ∷ z ∷ o) r t h = absurd (never x (cond (eqb (length (y ∷ z ∷ o)) 1) (report_with (cut report_layout (number (x ∷ y ∷ z ∷ o)))) (Err fault.Length)) (Err fault.Kind) (eqb (x / 64) 2) fault.Length fault.Kind r (grind (arith, nat_tests)) refl h)
 writing_undoes (x ∷ y ∷ []) r t h =

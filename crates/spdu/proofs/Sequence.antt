@@ -1,11 +1,10 @@
 -- How the items of an SPDU follow one another.
-use Rattle.std.proofs.Common.{◌≡◌, ℕ, zero, suc, ◌+◌, ◌-◌, List, [], ◌∷◌, length, take, drop, Some, None, Ok, Err, sym, refl, ap, ◌∙◌, add-zero, arith}
-use Rattle.std.proofs.lemmas.List.{drop-drop, drop_all}
+use Rattle.std.proofs.Common.{◌≡◌, ℕ, zero, suc, ◌+◌, ◌-◌, List, [], ◌∷◌, take, drop, Some, Ok, sym, refl, ap, ◌∙◌, add-zero, arith}
+use Rattle.std.proofs.lemmas.List.{drop-drop}
 use Rattle.directive.specs.Directive.{front, size_of}
 use Rattle.directive.specs.declared.directive.Name.{Name}
-use Rattle.directive.specs.declared.fault.SpduFault.{SpduFault}
 use Rattle.directive.proofs.Fronts.{size_positive}
-use Rattle.spdu.specs.Item.{ended, preceded, directive, directives, begins}
+use Rattle.spdu.specs.Item.{preceded, directive, directives, begins}
 
 -- octets that belong to a directive are passed over
 pub skips : (k at : ℕ) (o : List ℕ) → directives k at o ≡ directives 0 (at + k) (drop k o)
@@ -18,7 +17,7 @@ skips (suc k) at (x ∷ o) =
 
 -- a directive that was found is the first item, and the reading goes on after it
 pub finds : (at : ℕ) (o : List ℕ) (n : Name) → front at o ≡ Ok (Some n) → directives 0 at o ≡ preceded (directive n (take (size_of n) o)) (directives 0 (at + size_of n) (drop (size_of n) o))
-finds at [] n e = absurd (let z : ◌≡◌ {A = ℕ} 0 1 = cc in omega arith)
+finds at [] n e = cc
 finds at (x ∷ o) n e =
     let more : size_of n ≡ suc (size_of n - 1) = omega (arith, size_positive n) in
     let place : at + 1 + (size_of n - 1) ≡ at + size_of n = omega (arith, size_positive n) in
@@ -33,16 +32,3 @@ pub finds_in : (at : ℕ) (unit : List ℕ) (n : Name) → front at (drop at uni
 finds_in at unit n e =
     finds at (drop at unit) n e
     ∙ ap (λ o. preceded (directive n (take (size_of n) (drop at unit))) (directives 0 (at + size_of n) o)) (drop-drop (size_of n) at unit)
-
--- nothing is left at the end
-pub nothing : (unit : List ℕ) → directives 0 (length unit) (drop (length unit) unit) ≡ ended (Ok tt)
-nothing unit = ap (directives 0 (length unit)) (drop_all (length unit) unit (omega arith))
-
--- a reading that stops before it begins
-pub stops : (at : ℕ) (o : List ℕ) (e : SpduFault) → front at o ≡ Err e → directives 0 at o ≡ ended (Err e)
-stops at [] e h = absurd (let z : ◌≡◌ {A = ℕ} 0 1 = cc in omega arith)
-stops at (x ∷ o) e h = ap (λ r. begins r (x ∷ o) (λ m. directives (size_of m - 1) (at + 1) o)) h
-
-pub finishes : (at : ℕ) (o : List ℕ) → front at o ≡ Ok None → directives 0 at o ≡ ended (Ok tt)
-finishes at [] h = refl
-finishes at (x ∷ o) h = ap (λ r. begins r (x ∷ o) (λ m. directives (size_of m - 1) (at + 1) o)) h

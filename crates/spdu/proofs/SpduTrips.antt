@@ -7,7 +7,7 @@ use Rattle.bits.specs.Layout.{cut, join, fits, number}
 use Rattle.bits.proofs.Codecs.{granted}
 use Rattle.directive.specs.declared.fault.SpduFault.{SpduFault}
 use Rattle.directive.specs.declared.fault.SpduFault.TheVariants as fault
-use Rattle.spdu.specs.Report.{report_layout, report_fields, report_with, read_report, report_octets, encoded_report}
+use Rattle.spdu.specs.Report.{report_layout, report_fits, report_with, read_report, report_octets, encoded_report}
 use Rattle.spdu.specs.Item.{ContentValue, holds_report, holds_field, opened, opens_field, type_of, type_code, enough, items_of, read}
 use Rattle.spdu.specs.Spdu.{SpduValue, report, variable, content_read, read_spdu, variable_layout, variable_fields, spdu_fits, spdu_octets, encoded_spdu}
 use Rattle.spdu.specs.declared.report.Report.{Report}
@@ -22,11 +22,11 @@ read_opened k = carry (read k).ends (λ _. carry k content_read)
 
 report_first : (x : ℕ) (o : List ℕ) (t : Bool) (a : Result Report SpduFault) (r : Report) → cond t a (Err fault.Kind) ≡ Ok r → t ≡ true
 report_first x o true a r h = refl
-report_first x o false a r h = absurd (let z : ◌≡◌ {A = ℕ} 0 1 = cc in omega arith)
+report_first x o false a r h = cc
 
 -- octets that are a report hold it
 opens_report : (o : List ℕ) (r : Report) → read_report o ≡ Ok r → opened o ≡ Ok (holds_report o)
-opens_report [] r h = absurd (let z : ◌≡◌ {A = ℕ} 0 1 = cc in omega arith)
+opens_report [] r h = cc
 opens_report (x ∷ o) r h =
     let first = report_first x o (eqb (x / 64) 2) (cond (eqb (length o) 1) (report_with (cut report_layout (number (x ∷ o)))) (Err fault.Length)) r h in
     ap (λ t. cond t (carry (read_report (x ∷ o)) (λ _. Ok (holds_report (x ∷ o)))) (cond (eqb (x / 64) 3) (Err fault.Kind) (opens_field (type_of (x / 16)) (x % 16) o))) first
@@ -97,22 +97,22 @@ record Held (o : List ℕ) (s : SpduValue) : Type 0 where
   is : content_read content ≡ Ok s
 
 held : (o : List ℕ) (k : Result ContentValue SpduFault) (s : SpduValue) → opened o ≡ k → read_opened k ≡ Ok s → Held o s
-held o (Err e) s q h = absurd (let z : ◌≡◌ {A = ℕ} 0 1 = cc in omega arith)
+held o (Err e) s q h = cc
 held o (Ok c) s q h = record { content = c; opens = q; is = by (items_of c).ends h }
   where
     by : (r : Result (Unit {0}) SpduFault) → carry r (λ _. content_read c) ≡ Ok s → content_read c ≡ Ok s
     by (Ok u) e = e
-    by (Err x) e = absurd (let z : ◌≡◌ {A = ℕ} 0 1 = cc in omega arith)
+    by (Err x) e = cc
 
 -- a data field that was opened has its type and its length in the header
 field_opened : (k : Option SpduType) (told : ℕ) (p : List ℕ) (c : ContentValue) → opens_field k told p ≡ Ok c → (t : SpduType) × ((k ≡ Some t) × ((told ≡ length p) × (c ≡ holds_field t p)))
-field_opened None told p c h = absurd (let z : ◌≡◌ {A = ℕ} 0 1 = cc in omega arith)
+field_opened None told p c h = cc
 field_opened (Some t) told p c h = (t, (refl, by (eqb told (length p)) (enough t (length p)) refl h))
   where
     by : (a b : Bool) → eqb told (length p) ≡ a → cond (a && b) (Ok (holds_field t p)) (Err fault.Length) ≡ Ok c → (told ≡ length p) × (c ≡ holds_field t p)
     by true true e q = (eqb-true told (length p) e, cc)
-    by true false e q = absurd (let z : ◌≡◌ {A = ℕ} 0 1 = cc in omega arith)
-    by false b e q = absurd (let z : ◌≡◌ {A = ℕ} 0 1 = cc in omega arith)
+    by true false e q = cc
+    by false b e q = cc
 
 -- what is held by its first octet
 data Kind (o : List ℕ) (c : ContentValue) : Type 0 where
@@ -121,7 +121,7 @@ data Kind (o : List ℕ) (c : ContentValue) : Type 0 where
 
 report_kind : (o : List ℕ) (r : Result Report SpduFault) (c : ContentValue) → read_report o ≡ r → carry r (λ _. Ok (holds_report o)) ≡ Ok c → Kind o c
 report_kind o (Ok r) c e h = as_report r e cc
-report_kind o (Err x) c e h = absurd (let z : ◌≡◌ {A = ℕ} 0 1 = cc in omega arith)
+report_kind o (Err x) c e h = cc
 
 field_kind : (x : ℕ) (p : List ℕ) (c : ContentValue) → opens_field (type_of (x / 16)) (x % 16) p ≡ Ok c → Kind (x ∷ p) c
 field_kind x p c h =
@@ -129,12 +129,12 @@ field_kind x p c h =
     as_field x p g.0 refl (sym (type_kept (x / 16) g.0 g.1.0)) g.1.1.0 g.1.1.1
 
 kind : (o : List ℕ) (c : ContentValue) → opened o ≡ Ok c → Kind o c
-kind [] c h = absurd (let z : ◌≡◌ {A = ℕ} 0 1 = cc in omega arith)
+kind [] c h = cc
 kind (x ∷ p) c h = by (eqb (x / 64) 2) (eqb (x / 64) 3) h
   where
     by : (a b : Bool) → cond a (carry (read_report (x ∷ p)) (λ _. Ok (holds_report (x ∷ p)))) (cond b (Err fault.Kind) (opens_field (type_of (x / 16)) (x % 16) p)) ≡ Ok c → Kind (x ∷ p) c
     by true b q = report_kind (x ∷ p) (read_report (x ∷ p)) c refl q
-    by false true q = absurd (let z : ◌≡◌ {A = ℕ} 0 1 = cc in omega arith)
+    by false true q = cc
     by false false q = field_kind x p c q
 
 report_is : (o : List ℕ) (r : Report) (s : SpduValue) → read_report o ≡ Ok r → carry (read_report o) (λ p. Ok (report p)) ≡ Ok s → s ≡ report r
@@ -143,7 +143,7 @@ report_is o r s e h = let q : Ok s ≡ Ok (report r) = sym h ∙ ap (λ k. carry
 write_kind : (o : List ℕ) (c : ContentValue) (s : SpduValue) → ((i : ℕ) → get_or o i 0 < 256) → read_spdu o ≡ Ok s → content_read c ≡ Ok s → Kind o c → encoded_spdu s ≡ Ok o
 write_kind o c s t h i (as_report r e q) =
     let is : s ≡ report r = report_is o r s e (ap content_read (sym q) ∙ i) in
-    let g = granted fault.TooWide (fits report_layout (report_fields r)) (report_octets r) (read_report (report_octets r)) o (reports.writing_undoes o r t e) in
+    let g = granted fault.TooWide (report_fits r) (report_octets r) (read_report (report_octets r)) o (reports.writing_undoes o r t e) in
     ap encoded_spdu is
     ∙ ap (λ b. encoding fault.TooWide b (report_octets r) (read_spdu (report_octets r))) g.fits
     ∙ ap (λ p. encoding fault.TooWide true p (read_spdu p)) g.same
@@ -176,9 +176,9 @@ few o s h = let k = held o (opened o) s refl h in few_kind o k.content (kind o k
 
 -- a report has one encoding, alone or as an SPDU
 pub same_encoding : (r : Report) → encoded_report r ≡ encoded_spdu (report r)
-same_encoding r = by (fits report_layout (report_fields r)) refl
+same_encoding r = by (report_fits r) refl
   where
-    by : (t : Bool) → fits report_layout (report_fields r) ≡ t → encoding fault.TooWide t (report_octets r) (read_report (report_octets r)) ≡ encoding fault.TooWide t (report_octets r) (read_spdu (report_octets r))
+    by : (t : Bool) → report_fits r ≡ t → encoding fault.TooWide t (report_octets r) (read_report (report_octets r)) ≡ encoding fault.TooWide t (report_octets r) (read_spdu (report_octets r))
     by true e =
         let own = reports.own_octets r e in
         ap (encoding fault.TooWide true (report_octets r)) own ∙ sym (ap (encoding fault.TooWide true (report_octets r)) (reads_report (report_octets r) r own))

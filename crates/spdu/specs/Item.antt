@@ -1,10 +1,12 @@
 -- The items of an SPDU.
-use Rattle.std.specs.Prelude.{ℕ, zero, suc, ◌+◌, ◌-◌, ◌/◌, ◌%◌, Bool, true, cond, ◌&&◌, List, [], ◌∷◌, length, take, Some, None, Ok, Err, Option, Result, ◌==◌, nat_lt}
+use Rattle.std.specs.Prelude.{◌≡◌, ℕ, zero, suc, ◌+◌, ◌-◌, ◌/◌, ◌%◌, Bool, true, cond, ◌&&◌, List, [], ◌∷◌, length, take, Some, None, Ok, Err, Option, Result, ◌==◌, nat_lt}
+use Rattle.std.specs.Option.{ok_or}
 use Rattle.bits.specs.Codec.{carry}
 use Rattle.directive.specs.Directive.{front, size_of, read_directive}
 use Rattle.directive.specs.declared.directive.Name.{Name}
 use Rattle.directive.specs.declared.directive.Name.TheVariants as name
 use Rattle.directive.specs.declared.directive.Directive.{Directive}
+use Rattle.directive.specs.declared.reserved.ReservedCode.{ReservedCode}
 use Rattle.directive.specs.declared.fault.SpduFault.{SpduFault}
 use Rattle.directive.specs.declared.fault.SpduFault.TheVariants as fault
 use Rattle.spdu.specs.Report.{read_report}
@@ -66,6 +68,9 @@ item_fields (directive n o) = directive_fields o
 -- the types by their codes; the others are reserved
 abbrev pub type_of : ℕ → Option SpduType
 type_of n = cond (n == 0) (Some Type1) (cond (n == 1) (Some Type2) (cond (n == 2) (Some Type3) (cond (n == 4) (Some Type5) None)))
+
+abbrev pub GivesType : ℕ → Result SpduType ReservedCode → Type 0
+GivesType n r = r ≡ ok_or (type_of n) (record {})
 
 abbrev pub type_code : SpduType → ℕ
 type_code Type1 = 0
@@ -136,6 +141,14 @@ items_of (holds_field Type1 o) = preceded (octets Type1 o) (ended (Ok tt))
 items_of (holds_field Type2 o) = preceded (octets Type2 o) (ended (Ok tt))
 items_of (holds_field Type3 o) = preceded (octets Type3 o) (ended (Ok tt))
 items_of (holds_field Type5 o) = directives 0 1 o
+
+-- the one item of an SPDU that is not of Type 5
+abbrev pub single : ContentValue → Option ItemValue
+single (holds_report o) = Some (report o)
+single (holds_field Type1 o) = Some (octets Type1 o)
+single (holds_field Type2 o) = Some (octets Type2 o)
+single (holds_field Type3 o) = Some (octets Type3 o)
+single (holds_field Type5 o) = None
 
 -- the reading of an SPDU
 abbrev pub read : Result ContentValue SpduFault → Reading

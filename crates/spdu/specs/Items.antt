@@ -1,18 +1,19 @@
 -- What a reader of items has still to hand out.
-use Rattle.std.specs.Prelude.{◌≡◌, ℕ, ◌/◌, true, cond, List, [], ◌∷◌, drop, is_ok, Ok, Err, ◌==◌}
+use Rattle.std.specs.Prelude.{◌≡◌, ℕ, ◌/◌, true, cond, List, [], ◌∷◌, drop, is_ok, Some, None, Ok, Err, Option, Result, ◌==◌}
 use Rattle.std.specs.List.{flat_map, AllByRecursion}
 use Rattle.spdu.specs.Item.{Reading, ended, preceded, directives, item_value, item_octets, item_fields}
+use Rattle.directive.specs.declared.fault.SpduFault.{SpduFault}
+use Rattle.spdu.specs.declared.item.Item.{Item}
 use Rattle.spdu.specs.declared.items.Items.{Items}
-use Rattle.spdu.specs.declared.items.Next.{Next}
-use Rattle.spdu.specs.declared.items.Next.TheVariants as next
 
-abbrev pub left_at : List ℕ → ℕ → Next → Reading
-left_at unit at (next.Fault e) = ended (Err e)
-left_at unit at (next.Single i) = preceded (item_value i) (ended (Ok tt))
-left_at unit at next.Directive = directives 0 at (drop at unit)
+-- what is left after a first answer: a fault stays, a single item is the last, and else directives come
+abbrev pub left_at : List ℕ → ℕ → Result (Option Item) SpduFault → Reading
+left_at unit at (Err e) = ended (Err e)
+left_at unit at (Ok (Some i)) = preceded (item_value i) (ended (Ok tt))
+left_at unit at (Ok None) = directives 0 at (drop at unit)
 
 abbrev pub left : Items → Reading
-left i = left_at i.unit.now i.at i.next
+left i = left_at i.unit.now i.at i.first
 
 -- the data field of an SPDU; a report's is both its octets
 abbrev pub data_field : List ℕ → List ℕ

@@ -1,5 +1,5 @@
 -- The report of a receiver (PLCW), an SPDU of two octets.
-use Rattle.std.specs.Prelude.{ℕ, ◌/◌, cond, List, [], ◌∷◌, length, Ok, Err, Result, ◌==◌, slice_index}
+use Rattle.std.specs.Prelude.{ℕ, ◌/◌, Bool, cond, List, [], ◌∷◌, length, Ok, Err, Result, ◌==◌, slice_index}
 use Rattle.bits.specs.Layout.{cut, join, fits, octets, number}
 use Rattle.bits.specs.Codec.{encoding}
 use Rattle.directive.specs.Link.{flag}
@@ -26,9 +26,16 @@ abbrev pub read_report : List ℕ → Result Report SpduFault
 read_report [] = Err fault.Length
 read_report (x ∷ o) = cond (x / 64 == 2) (cond (length o == 1) (report_with (cut report_layout (number (x ∷ o)))) (Err fault.Length)) (Err fault.Kind)
 
+-- whether each value fits its field, and the number of which these are the fields
+abbrev pub report_fits : Report → Bool
+report_fits r = fits report_layout (report_fields r)
+
+abbrev pub report_word : Report → ℕ
+report_word r = join report_layout (report_fields r)
+
 abbrev pub report_octets : Report → List ℕ
-report_octets r = cut (octets 2) (join report_layout (report_fields r))
+report_octets r = cut (octets 2) (report_word r)
 
 -- the one encoding of a report
 abbrev pub encoded_report : Report → Result (List ℕ) SpduFault
-encoded_report r = encoding fault.TooWide (fits report_layout (report_fields r)) (report_octets r) (read_report (report_octets r))
+encoded_report r = encoding fault.TooWide (report_fits r) (report_octets r) (read_report (report_octets r))

@@ -4,7 +4,7 @@ use Rattle.bits.specs.Codec.{carry, encoding}
 use Rattle.bits.specs.Layout.{join, fits}
 use Rattle.directive.specs.declared.fault.SpduFault.{SpduFault}
 use Rattle.directive.specs.declared.fault.SpduFault.TheVariants as fault
-use Rattle.spdu.specs.Report.{report_layout, report_fields, read_report, report_octets}
+use Rattle.spdu.specs.Report.{report_fits, read_report, report_octets}
 use Rattle.spdu.specs.Item.{ContentValue, holds_report, holds_field, opened, reading, type_code}
 use Rattle.spdu.specs.declared.report.Report.{Report}
 use Rattle.spdu.specs.declared.item.SpduType.{SpduType}
@@ -40,7 +40,7 @@ abbrev pub variable_fields : SpduType → ℕ → List ℕ
 variable_fields t n = 0 ∷ type_code t ∷ n ∷ []
 
 abbrev pub spdu_fits : SpduValue → Bool
-spdu_fits (report r) = fits report_layout (report_fields r)
+spdu_fits (report r) = report_fits r
 spdu_fits (variable t o) = fits variable_layout (variable_fields t (length o))
 
 abbrev pub spdu_octets : SpduValue → List ℕ

@@ -1,14 +1,20 @@
 //! The report of a receiver (PLCW).
-ghost use Rattle.std.specs.Prelude.{◌≡◌, take, IfOk, if◌then◌else◌, Some, None, Ok};
+ghost use Rattle.std.specs.Prelude.{◌≡◌, take, IfOk, Ok};
 ghost use Rattle.bits.specs.Codec.{write_answer, written};
-ghost use Rattle.bits.specs.Layout.{cut, fits, join};
-ghost use Rattle.spdu.specs.Report.{encoded_report, read_report, report_fields, report_layout, report_with};
+ghost use Rattle.bits.specs.Layout.{cut};
+ghost use Rattle.spdu.specs.Report.{encoded_report, read_report, report_fits, report_layout, report_with, report_word};
+ghost use Rattle.directive.specs.declared.fault.SpduFault.TheVariants.{Buffer};
 
-use bits::{assemble, field, octets_of, put_first, word};
+use bits::{Encode, assemble, field, is_set, word};
 use directive::fault::SpduFault;
+use directive::packed::{Packed, write_packed};
+use std::fmt;
+
+/// How many octets a report has.
+const OCTETS: usize = 2;
 
 /// What a receiver tells of the sequence-controlled frames that it holds.
-#[derive(Clone, Copy)]
+#[derive(Clone, Copy, PartialEq, Eq, Debug)]
 pub struct Report {
     /// A frame is missing, and the sender is to start again with it.
     pub retransmit: bool,
@@ -24,29 +30,56 @@ pub struct Report {
 fn report_of(word: u128) -> Result<Report, SpduFault>
     ensures { result ≡ report_with (cut report_layout word) }
 {
-    if field(word, 11, 1) != 0 {
+    if is_set(word, 11) {
         return Err(SpduFault::Reserved(0));
     }
     Ok(Report {
-        retransmit: field(word, 13, 1) == 1,
+        retransmit: is_set(word, 13),
         channel: field(word, 12, 1) as u8,
         counter: field(word, 8, 3) as u8,
         value: field(word, 0, 8) as u8,
     })
 }
 
-// The sixteen bits of a report. None where a value is wider than its field.
-fn report_word(report: Report) -> Option<u128>
-    ensures { result ≡ (if fits report_layout (report_fields report) then Some (join report_layout (report_fields report)) else None) }
-{
-    assemble(&[
-        (2, 2),
-        (1, report.retransmit as u128),
-        (1, report.channel as u128),
-        (1, 0),
-        (3, report.counter as u128),
-        (8, report.value as u128),
-    ])
+impl Packed for Report {
+    ghost fits = { report_fits };
+
+    ghost word = { report_word };
+
+    ghost size = { λ _. 2 };
+
+    ghost read = { read_report };
+
+    fn word(self) -> Option<u128> {
+        assemble(&[
+            (2, 2),
+            (1, u128::from(self.retransmit)),
+            (1, u128::from(self.channel)),
+            (1, 0),
+            (3, u128::from(self.counter)),
+            (8, u128::from(self.value)),
+        ])
+    }
+
+    fn size(self) -> usize {
+        OCTETS
+    }
+
+    fn read(octets: &[u8]) -> Result<Self, SpduFault> {
+        read_report(octets)
+    }
+}
+
+impl Encode for Report {
+    type Fault = SpduFault;
+
+    ghost encoded = { encoded_report };
+
+    ghost no_room = { Buffer };
+
+    fn write(self, buffer: &mut [u8]) -> Result<usize, SpduFault> {
+        write_report(self, buffer)
+    }
 }
 
 /// The report that these octets are.
@@ -72,11 +105,18 @@ pub fn write_report(report: Report, buffer: &mut [u8]) -> Result<usize, SpduFaul
     ensures after { buffer.new ≡ written (encoded_report report) buffer.old }
     ensures undone { IfOk result (λ n. read_report (take n buffer.new) ≡ Ok report) }
 {
-    let Some(word) = report_word(report) else {
-        return Err(SpduFault::TooWide);
-    };
-    let all = octets_of(word);
-    let octets = &all[14..];
-    read_report(octets)?;
-    put_first(octets, buffer).ok_or(SpduFault::Buffer)
+    write_packed(report, buffer)
+}
+
+impl fmt::Display for Report {
+    fn fmt<W: fmt::Write>(&self, f: &mut fmt::Formatter<W>) -> fmt::Result {
+        let retransmit = if self.retransmit { "set" } else { "clear" };
+        let channel = self.channel;
+        let counter = self.counter;
+        let value = self.value;
+        write!(
+            f,
+            "retransmit {retransmit}, channel {channel}, counter {counter}, value {value}"
+        )
+    }
 }

@@ -2,17 +2,18 @@
 ghost use Rattle.std.specs.Prelude.{◌≡◌, ◌+◌, ◌<◌, ◌≤◌, ◌∷◌, length, take, IfSome, IfOk, if◌then◌else◌, Some, None, Ok, OnOk};
 ghost use Rattle.bits.specs.Codec.{write_answer, written};
 ghost use Rattle.bits.specs.Layout.{fits, join};
-ghost use Rattle.spdu.specs.Item.{reading, type_code};
+ghost use Rattle.directive.specs.declared.fault.SpduFault.TheVariants.{Buffer};
+ghost use Rattle.spdu.specs.Item.{reading};
 ghost use Rattle.spdu.specs.Spdu.{encoded_spdu, read_spdu, spdu_seen, spdu_value, variable, variable_fields, variable_layout};
 
 use super::item::{Content, SpduType, open_spdu};
 use super::items::Items;
 use super::report::{Report, read_report, write_report};
-use bits::{assemble, put_first};
+use bits::{Encode, assemble, put_first};
 use directive::fault::SpduFault;
 
 /// An SPDU: a report, or the data field of a type.
-#[derive(Clone, Copy)]
+#[derive(Clone, Copy, PartialEq, Eq, Debug)]
 pub enum Spdu<'a> {
     Report(Report),
     Variable(SpduType, &'a [u8]),
@@ -40,23 +41,12 @@ pub fn read_spdu(octets: &[u8]) -> Result<Spdu<'_>, SpduFault>
     }
 }
 
-fn type_code(kind: SpduType) -> u128
-    ensures { result ≡ type_code kind }
-{
-    match kind {
-        SpduType::Type1 => 0,
-        SpduType::Type2 => 1,
-        SpduType::Type3 => 2,
-        SpduType::Type5 => 4,
-    }
-}
-
 // The header octet of a variable SPDU. None where the length is wider than its field.
 fn variable_word(kind: SpduType, count: usize) -> Option<u128>
     ensures answer { result ≡ (if fits variable_layout (variable_fields kind count) then Some (join variable_layout (variable_fields kind count)) else None) }
     ensures small { IfSome result (λ w. (w < 256) × (count < 16)) }
 {
-    assemble(&[(1, 0), (3, type_code(kind)), (4, count as u128)])
+    assemble(&[(1, 0), (3, u128::from(kind)), (4, count as u128)])
 }
 
 // An octet and others after it, at most sixteen in all.
@@ -70,16 +60,14 @@ fn header_then(header: u8, octets: &[u8]) -> [u8; 16]
     all
 }
 
-// Puts a variable SPDU first into the buffer.
+// Puts a variable SPDU first into the buffer. It is not `Packed`: sixteen octets are more than a word of fields has.
 fn write_variable(kind: SpduType, octets: &[u8], buffer: &mut [u8]) -> Result<usize, SpduFault>
     ensures answer { result ≡ write_answer SpduFault.Buffer (encoded_spdu (variable kind octets.now)) buffer.old }
     ensures after { buffer.new ≡ written (encoded_spdu (variable kind octets.now)) buffer.old }
     ensures undone { IfOk result (λ n. read_spdu (take n buffer.new) ≡ Ok (variable kind octets.now)) }
 {
     let count = octets.len();
-    let Some(header) = variable_word(kind, count) else {
-        return Err(SpduFault::TooWide);
-    };
+    let header = variable_word(kind, count).ok_or(SpduFault::TooWide)?;
     let all = header_then(header as u8, octets);
     let whole = &all[0..count + 1];
     read_spdu(whole)?;
@@ -95,5 +83,17 @@ pub fn write_spdu(spdu: Spdu<'_>, buffer: &mut [u8]) -> Result<usize, SpduFault>
     match spdu {
         Spdu::Report(report) => write_report(report, buffer),
         Spdu::Variable(kind, octets) => write_variable(kind, octets, buffer),
+    }
+}
+
+impl Encode for Spdu<'_> {
+    type Fault = SpduFault;
+
+    ghost encoded = { λ spdu. encoded_spdu (spdu_value spdu) };
+
+    ghost no_room = { Buffer };
+
+    fn write(self, buffer: &mut [u8]) -> Result<usize, SpduFault> {
+        write_spdu(self, buffer)
     }
 }

@@ -1,13 +1,24 @@
-use Rattle.std.proofs.Common.{◌≡◌, drop, sym, ap, ◌∙◌}
-use Rattle.std.proofs.lemmas.List.{drop_all, take_rest}
-use Rattle.directive.specs.Directive.{front}
-use Rattle.directive.proofs.Fronts.{front_within}
+use Rattle.std.proofs.Common.{◌≡◌, drop, Err, sym, ◌∙◌, arith}
+use Rattle.std.proofs.lemmas.List.{take_rest}
+use Rattle.std.proofs.lemmas.Grind.{common_steps}
+use Rattle.std.specs.Option.{option_map}
+use Rattle.directive.specs.Directive.{first_directive, name_for}
+use Rattle.directive.proofs.Fronts.{front-first, first_near}
 use Rattle.directive.proofs.directive.directive_at.Goals as goal
 
-pub returns-then-at-unit : goal.returns-then-at-unit
-returns-then-at-unit c = record { answer = ap (front c.args.at) (sym (drop_all c.args.at c.args.unit.now c.if-at-unit.true)); within = tt }
+pub moved-requires : goal.moved-requires
+moved-requires c =
+    let o = drop c.args.at c.args.unit.now in
+    let first : first_directive o ≡ Err c.in-Err.fault = rw (take_rest c.args.unit.now c.args.at) at (sym c.first_directive.ensures ∙ c.in-Err.is) in
+    omega (arith, first_near o c.in-Err.fault first)
 
-pub returns : goal.returns
-returns c =
-    let answer : c.front_of.result ≡ front c.args.at (drop c.args.at c.args.unit.now) = c.front_of.ensures ∙ ap (front c.args.at) (take_rest c.args.unit.now c.args.at) in
-    record { answer = answer; within = front_within c.args.at c.args.unit.now c.front_of.result answer }
+pub returns-in-Ok-clause-answer : goal.returns-in-Ok-clause-answer
+returns-in-Ok-clause-answer c =
+    let o = drop c.args.at c.args.unit.now in
+    let named : c.map.result ≡ option_map name_for c.in-Ok.directive = grind (arith, common_steps) in
+    grind (arith, take_rest c.args.unit.now c.args.at, front-first c.args.at o)
+
+pub returns-in-Err-clause-answer : goal.returns-in-Err-clause-answer
+returns-in-Err-clause-answer c =
+    let o = drop c.args.at c.args.unit.now in
+    grind (arith, take_rest c.args.unit.now c.args.at, front-first c.args.at o)

@@ -1,5 +1,5 @@
 use Rattle.std.proofs.Common.{◌-◌, ◌/◌, ◌%◌, ◌<◌, length, get_or, take, drop, sym, ap, ◌∙◌, arith, rules}
-use lib.Bits.{bit_and, and_mask}
+use lib.Bits.{and_mask}
 use Rattle.std.proofs.lemmas.Slice.{between_to_end}
 use Rattle.spdu.specs.Item.{opens_field, type_of}
 use Rattle.spdu.proofs.Opened.{opens_variable}
@@ -11,7 +11,6 @@ returns-in_default-2 c =
     let some : 0 < length o = search rules in
     let low : get_or o 0 0 / 64 < 2 = search rules in
     c.open_field.ensures
-    ∙ ap (λ t. opens_field t (bit_and (get_or o 0 0) 15) (take (length o - 1) (drop 1 o))) c.type_of.ensures
     ∙ ap (λ n. opens_field (type_of (get_or o 0 0 / 16)) n (take (length o - 1) (drop 1 o))) (and_mask (get_or o 0 0) 4)
     ∙ ap (opens_field (type_of (get_or o 0 0 / 16)) (get_or o 0 0 % 16)) (between_to_end o 1 (length o) (omega arith))
     ∙ sym (opens_variable o some low)
