@@ -3,24 +3,31 @@ ghost use Rattle.std.specs.Prelude.{◌≡◌, ◌+◌, ◌^◌, ◌<◌};
 ghost use Rattle.directive.specs.Fault.{moved, spdu_fault};
 
 use refusal::{Fault, Layer};
-use std::fmt;
+use thiserror::Error;
 
 /// Why octets are no supervisory unit, or why one cannot be written. Octets count from 0 in the unit.
-#[derive(Clone, Copy, PartialEq, Eq, Debug)]
+#[derive(Clone, Copy, PartialEq, Eq, Debug, Error)]
 pub enum SpduFault {
     /// Empty, or of wrong length.
+    #[error("the unit is empty or of wrong length")]
     Length,
     /// A reserved kind of unit.
+    #[error("the kind of unit is reserved")]
     Kind,
     /// The data field ends inside the directive that starts at this octet.
+    #[error("the data field ends inside a directive")]
     Cut(usize),
     /// A reserved name or code, or a spare bit that is set, in the field that starts at this octet.
+    #[error("a name or a code is reserved, or a spare bit is set")]
     Reserved(usize),
     /// A symbol rate or a frequency out of range, in the field that starts at this octet.
+    #[error("a symbol rate or a frequency is out of range")]
     Range(usize),
     /// A value is wider than its field.
+    #[error("a value is wider than its field")]
     TooWide,
     /// The buffer is too small.
+    #[error("the buffer is too small")]
     Buffer,
 }
 
@@ -64,19 +71,5 @@ impl Fault for SpduFault {
             SpduFault::Cut(at) | SpduFault::Reserved(at) | SpduFault::Range(at) => *at,
             SpduFault::Length | SpduFault::Kind | SpduFault::TooWide | SpduFault::Buffer => 0,
         }
-    }
-}
-
-impl fmt::Display for SpduFault {
-    fn fmt<W: fmt::Write>(&self, f: &mut fmt::Formatter<W>) -> fmt::Result {
-        f.write_str(match self {
-            SpduFault::Length => "the unit is empty or of wrong length",
-            SpduFault::Kind => "the kind of unit is reserved",
-            SpduFault::Cut(_) => "the data field ends inside a directive",
-            SpduFault::Reserved(_) => "a name or a code is reserved, or a spare bit is set",
-            SpduFault::Range(_) => "a symbol rate or a frequency is out of range",
-            SpduFault::TooWide => "a value is wider than its field",
-            SpduFault::Buffer => "the buffer is too small",
-        })
     }
 }

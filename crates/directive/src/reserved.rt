@@ -3,20 +3,12 @@ ghost use Rattle.std.specs.Prelude.{◌≡◌, if◌then◌else◌, Ok, Err, nat
 ghost use Rattle.directive.specs.declared.fault.SpduFault.TheVariants.{Reserved};
 
 use super::fault::SpduFault;
-use std::error::Error;
-use std::fmt;
+use thiserror::Error;
 
 /// A code that stands for nothing.
-#[derive(Clone, Copy, PartialEq, Eq, Debug)]
+#[derive(Clone, Copy, PartialEq, Eq, Debug, Error)]
+#[error("the code is reserved")]
 pub struct ReservedCode;
-
-impl fmt::Display for ReservedCode {
-    fn fmt<W: fmt::Write>(&self, f: &mut fmt::Formatter<W>) -> fmt::Result {
-        f.write_str("the code is reserved")
-    }
-}
-
-impl Error for ReservedCode {}
 
 /// What spare bits answer in the field that starts at this octet of its directive.
 pub(crate) fn spare(bits: u128, octet: usize) -> Result<(), SpduFault>
