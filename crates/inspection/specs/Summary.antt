@@ -16,14 +16,14 @@ none = record { controlled = 0; expedited = 0; supervisory = 0; refused = replic
 
 -- one more frame of a kind and a quality
 abbrev pub framed : Kind → Quality → Summary → Summary
-framed User SequenceControlled s = record { controlled = more s.controlled; expedited = s.expedited; supervisory = s.supervisory; refused = s.refused; unreadable = s.unreadable }
-framed User Expedited s = record { controlled = s.controlled; expedited = more s.expedited; supervisory = s.supervisory; refused = s.refused; unreadable = s.unreadable }
-framed Supervisory q s = record { controlled = s.controlled; expedited = s.expedited; supervisory = more s.supervisory; refused = s.refused; unreadable = s.unreadable }
+framed User SequenceControlled s = record s { controlled = more s.controlled }
+framed User Expedited s = record s { expedited = more s.expedited }
+framed Supervisory q s = record s { supervisory = more s.supervisory }
 
 -- one more refusal of that number; numbers past 20, which no refusal has, change nothing
 abbrev pub refused_once : ℕ → Summary → Summary
-refused_once n s = record { controlled = s.controlled; expedited = s.expedited; supervisory = s.supervisory; refused = cond (nat_lt n 21) (slice_set s.refused n (more (slice_index s.refused n))) s.refused; unreadable = s.unreadable }
+refused_once n s = record s { refused = cond (nat_lt n 21) (slice_set s.refused n (more (slice_index s.refused n))) s.refused }
 
 -- one more line that is not octets
 abbrev pub unreadable_once : Summary → Summary
-unreadable_once s = record { controlled = s.controlled; expedited = s.expedited; supervisory = s.supervisory; refused = s.refused; unreadable = more s.unreadable }
+unreadable_once s = record s { unreadable = more s.unreadable }
