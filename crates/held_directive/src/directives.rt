@@ -3,8 +3,8 @@
 //! A queue of directives is the numbers of a queue and a table of directives. The caller lends the table to each call,
 //! which tries first whether it fits, so the two stay two values. The calls hand on to those of any queue; they have
 //! the shape of the calls for units.
-ghost use Rattle.std.specs.Prelude.{◌≡◌, false, is_ok};
-ghost use Rattle.queue.specs.Queue.{Added, Fitted, Freed, Tied};
+ghost use Rattle.std.specs.Prelude.{◌≡◌};
+ghost use Rattle.queue.specs.Queue.{Added, Fitted, Freed, Keeps};
 ghost use Rattle.held_directive.specs.Directives.{CopiesDirective, directive_octets};
 
 use super::held::HeldDirective;
@@ -31,8 +31,7 @@ pub fn hold_directive(
     directive: HeldDirective,
 ) -> Result<usize, QueueFault>
     ensures held { Added queue.old.ring directives.old.entries.now directive result queue.new.ring directives.new.entries.now }
-    ensures tied { Tied directive_octets queue.old directives.old.entries.now → Tied directive_octets queue.new directives.new.entries.now }
-    ensures kept { is_ok result ≡ false → queue.new ≡ queue.old }
+    ensures keeps { Keeps directive_octets queue.old directives.old.entries.now result queue.new directives.new.entries.now }
 {
     queue.add(directives.entries, directive)
 }
@@ -62,8 +61,7 @@ pub fn free_directives(
     n: usize,
 ) -> Result<usize, QueueFault>
     ensures freed { Freed queue.old.ring directives.now.entries.now n result queue.new.ring }
-    ensures tied { Tied directive_octets queue.old directives.now.entries.now → Tied directive_octets queue.new directives.now.entries.now }
-    ensures kept { is_ok result ≡ false → queue.new ≡ queue.old }
+    ensures keeps { Keeps directive_octets queue.old directives.now.entries.now result queue.new directives.now.entries.now }
 {
     queue.free(directives.entries, n)
 }

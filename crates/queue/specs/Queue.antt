@@ -1,5 +1,5 @@
 -- What each call of a queue answers and leaves.
-use Rattle.std.specs.Prelude.{◌≡◌, ℕ, ◌+◌, min, Bool, true, cond, ◌&&◌, List, [], ◌∷◌, ◌++◌, length, drop, is_ok, Ok, Err, sum_by, Option, Result, ◌==◌, nat_le, nat_lt, slice_get, slice_set}
+use Rattle.std.specs.Prelude.{◌≡◌, ℕ, ◌+◌, min, Bool, true, false, cond, ◌&&◌, List, [], ◌∷◌, ◌++◌, length, drop, is_ok, Ok, Err, sum_by, Option, Result, ◌==◌, nat_le, nat_lt, slice_get, slice_set}
 use Rattle.ring.specs.Ring.{Numbers, queued, index_of, grown, without}
 use Rattle.queue.specs.Counts.{Counts, empty_queue}
 use Rattle.queue.specs.Limits.{largest_table}
@@ -21,6 +21,11 @@ making n = cond (nat_lt 0 n && nat_le n largest_table) (Ok (empty_queue n)) (Err
 -- the kept total is the octets of the queued elements
 abbrev pub Tied : {T : Type 0} → (T → ℕ) → Counts → List T → Type 0
 Tied octets q t = q.total ≡ sum_by octets (queued q.ring t)
+
+-- what every call that changes a queue keeps: the total stays tied to the elements, and a refusal changes nothing
+pub record Keeps {T E : Type 0} (octets : T → ℕ) (q : Counts) (t : List T) (r : Result ℕ E) (q' : Counts) (t' : List T) : Type 0 where
+  pub tied : Tied octets q t → Tied octets q' t'
+  pub unchanged : is_ok r ≡ false → q' ≡ q
 
 -- asking whether a table fits: over one that does, as many elements are queued as the count says; and over any table,
 -- a queue with a count and a total of 0, as one just made or cleared, has nothing queued, and is tied

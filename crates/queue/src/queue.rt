@@ -1,9 +1,9 @@
 //! What a queue is, what it asks of its elements, and its calls.
-ghost use Rattle.std.specs.Prelude.{◌≡◌, ℕ, ◌<◌, ◌≤◌, min, false, length, take, is_ok, OnOk, sum_by};
+ghost use Rattle.std.specs.Prelude.{◌≡◌, ℕ, ◌<◌, ◌≤◌, min, length, take, OnOk, sum_by};
 ghost use Rattle.ring.specs.Ring.{Sound, index_of, queued};
 ghost use Rattle.queue.specs.Counts.{empty_queue};
 ghost use Rattle.queue.specs.Limits.{largest_table, most_octets};
-ghost use Rattle.queue.specs.Queue.{Added, Fitted, Freed, Tied, copied_at, making, over};
+ghost use Rattle.queue.specs.Queue.{Added, Fitted, Freed, Keeps, copied_at, making, over};
 
 use super::fault::QueueFault;
 use ring::Ring;
@@ -100,8 +100,7 @@ impl Queue {
     /// Adds x behind the others, and answers how many there are then.
     pub fn add<T: Copy + Octets>(&mut self, table: &mut [T], x: T) -> Result<usize, QueueFault>
         ensures added { Added self.old.ring table.old x result self.new.ring table.new }
-        ensures tied { Tied T.octets self.old table.old → Tied T.octets self.new table.new }
-        ensures kept { is_ok result ≡ false → self.new ≡ self.old }
+        ensures keeps { Keeps T.octets self.old table.old result self.new table.new }
     {
         check_table(self.ring, table)?;
         let count = self.ring.count();
@@ -121,8 +120,7 @@ impl Queue {
     /// that leave, for their octets, and no other.
     pub fn free<T: Octets>(&mut self, table: &[T], n: usize) -> Result<usize, QueueFault>
         ensures freed { Freed self.old.ring table.now n result self.new.ring }
-        ensures tied { Tied T.octets self.old table.now → Tied T.octets self.new table.now }
-        ensures kept { is_ok result ≡ false → self.new ≡ self.old }
+        ensures keeps { Keeps T.octets self.old table.now result self.new table.now }
     {
         check_table(self.ring, table)?;
         let gone = n.min(self.ring.count());

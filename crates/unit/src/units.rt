@@ -4,8 +4,8 @@
 //! slip and its slot have the same index, so nothing has to be searched, and no octet moves while a unit waits. The
 //! caller lends table and store to each call, which tries first whether they fit, so a queue and its memory stay two
 //! values.
-ghost use Rattle.std.specs.Prelude.{◌≡◌, ◌*◌, false, is_ok};
-ghost use Rattle.queue.specs.Queue.{Tied};
+ghost use Rattle.std.specs.Prelude.{◌≡◌, ◌*◌};
+ghost use Rattle.queue.specs.Queue.{Keeps};
 ghost use Rattle.ring.specs.Ring.{Sound};
 ghost use Rattle.unit.specs.Unit.{CopiesOut, Holds, LetsGo, memory_fits, slip_octets};
 
@@ -46,8 +46,7 @@ pub fn hold(
     octets: &[u8],
 ) -> Result<usize, UnitFault>
     ensures held { Holds queue.old.ring queue.new.ring units.old.slips.now units.new.slips.now units.old.store.now units.new.store.now (record { port = port; quality = quality; octets = octets.now }) result }
-    ensures tied { Tied slip_octets queue.old units.old.slips.now → Tied slip_octets queue.new units.new.slips.now }
-    ensures kept { is_ok result ≡ false → queue.new ≡ queue.old }
+    ensures keeps { Keeps slip_octets queue.old units.old.slips.now result queue.new units.new.slips.now }
 {
     if !fits(queue, units) {
         return Err(UnitFault::Memory);
@@ -93,8 +92,7 @@ pub fn copy_unit(
 /// Lets the first n units go, or all where there are fewer, and answers how many went.
 pub fn free_units(queue: &mut Queue, units: &Units<'_>, n: usize) -> Result<usize, UnitFault>
     ensures freed { LetsGo queue.old.ring queue.new.ring units.now.slips.now units.now.store.now n result }
-    ensures tied { Tied slip_octets queue.old units.now.slips.now → Tied slip_octets queue.new units.now.slips.now }
-    ensures kept { is_ok result ≡ false → queue.new ≡ queue.old }
+    ensures keeps { Keeps slip_octets queue.old units.now.slips.now result queue.new units.now.slips.now }
 {
     if !fits(queue, units) {
         return Err(UnitFault::Memory);

@@ -12,6 +12,5 @@ returns g c =
     rw (← c.self.view_is)
     (record {
       added = done;
-      tied = added_tied ring t sound fit g.T.Octets.octets g.met.T.Octets.few c.args.x _ _ _ _ _ (search rules) done (search rules);
-      kept = search rules;
+      keeps = record { tied = added_tied ring t sound fit g.T.Octets.octets g.met.T.Octets.few c.args.x _ _ _ _ _ (search rules) done (search rules); unchanged = search rules };
     })

@@ -12,6 +12,5 @@ returns g c =
     rw (← c.self.view_is)
     (record {
       freed = done;
-      tied = freed_tied ring t sound fit g.T.Octets.octets c.args.n _ _ _ _ (search rules) done (search rules);
-      kept = search rules;
+      keeps = record { tied = freed_tied ring t sound fit g.T.Octets.octets c.args.n _ _ _ _ (search rules) done (search rules); unchanged = search rules };
     })
