@@ -94,14 +94,22 @@ fn directive_word(directive: Directive) -> Option<u128>
     match directive {
         Directive::LinkEstablishment(link) => link_word(link),
         Directive::ReportRequest(request) => assemble(&[
-            (3, 1),
+            (3, Name::ReportRequest as u128),
             (1, u128::from(request.channel0)),
             (1, u128::from(request.channel1)),
             (6, u128::from(request.time_tags)),
             (5, u128::from(request.status)),
         ]),
-        Directive::SetVr(number) => assemble(&[(3, 2), (5, 0), (8, u128::from(number))]),
-        Directive::SourceId(id) => assemble(&[(3, 3), (13, 0), (16, u128::from(id))]),
+        Directive::SetVr(number) => assemble(&[
+            (3, Name::SetVr as u128),
+            (5, 0),
+            (8, u128::from(number)),
+        ]),
+        Directive::SourceId(id) => assemble(&[
+            (3, Name::SourceId as u128),
+            (13, 0),
+            (16, u128::from(id)),
+        ]),
     }
 }
 
@@ -187,7 +195,7 @@ pub fn directive_at(unit: &[u8], at: usize) -> Result<Option<Name>, SpduFault>
         return Ok(None);
     }
     match first_directive(&unit[at..]) {
-        Ok(directive) => Ok(directive.map(|found| found.name())),
+        Ok(directive) => Ok(directive.map(Directive::name)),
         Err(fault) => Err(fault.moved(at)),
     }
 }

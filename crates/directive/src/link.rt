@@ -4,6 +4,7 @@ ghost use Rattle.bits.specs.Layout.{cut, fits, join};
 ghost use Rattle.directive.specs.Link.{GivesCoding, GivesDuplex, GivesModulation, coding_code, duplex_code, link_fields, link_of, link_rules, modulation_code};
 ghost use Rattle.directive.specs.Rule.{allowed, layout};
 
+use super::directive::Name;
 use super::fault::SpduFault;
 use super::rate::rate_is_allowed;
 use super::reserved::{ReservedCode, spare};
@@ -176,7 +177,7 @@ pub(crate) fn link_word(link: LinkEstablishment) -> Option<u128>
     ensures { result ≡ (if fits (layout link_rules) (link_fields link) then Some (join (layout link_rules) (link_fields link)) else None) }
 {
     assemble(&[
-        (3, 0),
+        (3, Name::LinkEstablishment as u128),
         (1, 0),
         (1, u128::from(link.forward)),
         (1, u128::from(link.query)),
