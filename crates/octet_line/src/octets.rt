@@ -7,7 +7,7 @@ use ring::Ring;
 use std::marker::Model;
 
 /// A line over a ring of octets: the octets, which of them are used, how many frames these are, and how many may wait.
-#[derive(Drop)]
+#[derive(Drop, Debug)]
 pub struct OctetLine<'a> {
     octets: &'a mut [u8],
     ring: Ring,

@@ -6,7 +6,7 @@ use ring::Ring;
 use std::marker::Model;
 
 /// A line over slots: the slots, end to end, the length of the frame in each, and which of them are used.
-#[derive(Drop)]
+#[derive(Drop, Debug)]
 pub struct SlotLine<'a> {
     store: &'a mut [u8],
     lengths: &'a mut [u16],
