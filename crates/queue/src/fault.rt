@@ -2,14 +2,16 @@
 ghost use Rattle.queue.specs.Fault.{queue_fault};
 
 use refusal::{Fault, Layer};
-use std::fmt;
+use thiserror::Error;
 
 /// Why a queue was not made, or was not changed.
-#[derive(Clone, Copy, PartialEq, Eq, Debug)]
+#[derive(Clone, Copy, PartialEq, Eq, Debug, Error)]
 pub enum QueueFault {
     /// No place of the table is free.
+    #[error("the queue is full")]
     Full = 16,
     /// A table of no size that a queue can have, or of another size than the queue was made for.
+    #[error("the table has not the size that the queue needs")]
     Table = 18,
 }
 
@@ -26,14 +28,5 @@ impl Fault for QueueFault {
 
     fn octet(&self) -> usize {
         0
-    }
-}
-
-impl fmt::Display for QueueFault {
-    fn fmt<W: fmt::Write>(&self, f: &mut fmt::Formatter<W>) -> fmt::Result {
-        f.write_str(match self {
-            QueueFault::Full => "the queue is full",
-            QueueFault::Table => "the table has not the size that the queue needs",
-        })
     }
 }

@@ -4,16 +4,19 @@ ghost use Rattle.unit.specs.Fault.{of_queue, unit_fault};
 
 use queue::fault::QueueFault;
 use refusal::{Fault, Layer};
-use std::fmt;
+use thiserror::Error;
 
 /// Why a unit is not queued, or not copied out.
-#[derive(Clone, Copy, PartialEq, Eq, Debug)]
+#[derive(Clone, Copy, PartialEq, Eq, Debug, Error)]
 pub enum UnitFault {
     /// No octet or more than 2,043, or a port over 7.
+    #[error("the unit has no octet, more than 2043, or a port over 7")]
     Unit = 15,
     /// Every place of the table is taken.
+    #[error("the queue is full")]
     Full = 16,
     /// A table, a store or a buffer of the wrong size.
+    #[error("a table, a store or a buffer has not the size that it needs")]
     Memory = 18,
 }
 
@@ -41,15 +44,5 @@ impl Fault for UnitFault {
 
     fn octet(&self) -> usize {
         0
-    }
-}
-
-impl fmt::Display for UnitFault {
-    fn fmt<W: fmt::Write>(&self, f: &mut fmt::Formatter<W>) -> fmt::Result {
-        f.write_str(match self {
-            UnitFault::Unit => "the unit has no octet, more than 2043, or a port over 7",
-            UnitFault::Full => "the queue is full",
-            UnitFault::Memory => "a table, a store or a buffer has not the size that it needs",
-        })
     }
 }
