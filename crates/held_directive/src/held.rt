@@ -1,7 +1,7 @@
 //! A directive in a queue.
 ghost use Rattle.std.specs.Prelude.{◌≡◌, ◌≤◌, [], ◌∷◌, length};
 ghost use Rattle.bits.specs.Codec.{put, put_answer};
-ghost use Rattle.held_directive.specs.Held.{packing};
+ghost use Rattle.held_directive.specs.Held.{packing, padded};
 
 use bits::put_first;
 use queue::queue::Octets;
@@ -52,10 +52,8 @@ impl HeldDirective {
         if count > LONGEST_DIRECTIVE {
             return None;
         }
-        let mut all = [0; LONGEST_DIRECTIVE];
-        all[0..count].copy_from_slice(octets);
         Some(HeldDirective {
-            octets: all,
+            octets: padded(octets),
             count: count as u8,
         })
     }
@@ -69,6 +67,16 @@ impl HeldDirective {
     {
         put_first(&self.octets[0..self.count as usize], buffer)
     }
+}
+
+// Octets with zeros behind them.
+fn padded(octets: &[u8]) -> [u8; LONGEST_DIRECTIVE]
+    requires { length octets.now ≤ 16 }
+    ensures { result ≡ padded octets.now }
+{
+    let mut all = [0; LONGEST_DIRECTIVE];
+    all[0..octets.len()].copy_from_slice(octets);
+    all
 }
 
 impl Octets for HeldDirective {

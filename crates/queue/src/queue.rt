@@ -145,6 +145,7 @@ impl Queue {
     }
 
     /// A copy of the element at a place, counted from 0 at the oldest, or none where there is none.
+    #[tactic(auto, using(crate::proofs::Promises::copied, crate::proofs::Promises::none_copied))]
     pub fn copy_out<T: Copy>(&self, table: &[T], place: usize) -> Result<Option<T>, QueueFault>
         ensures { result ≡ copied_at self.now.ring table.now place }
     {
