@@ -1,7 +1,7 @@
 //! The link establishment directive, 96 bits.
 ghost use Rattle.std.specs.Prelude.{◌≡◌, if◌then◌else◌, Some, None};
 ghost use Rattle.bits.specs.Layout.{cut, fits, join};
-ghost use Rattle.directive.specs.Link.{GivesCoding, GivesDuplex, GivesModulation, coding_code, duplex_code, link_fields, link_of, link_rules, modulation_code};
+ghost use Rattle.directive.specs.Link.{GivesCoding, GivesDuplex, GivesModulation, link_fields, link_of, link_rules};
 ghost use Rattle.directive.specs.Rule.{allowed, layout};
 
 use super::directive::Name;
@@ -63,14 +63,6 @@ pub struct LinkEstablishment {
     pub frequency: u32,
 }
 
-impl From<Duplex> for u128 {
-    ghost from_gives = { λ duplex code. code ≡ duplex_code duplex };
-
-    fn from(duplex: Duplex) -> u128 {
-        duplex as u128
-    }
-}
-
 impl TryFrom<u128> for Duplex {
     type Error = ReservedCode;
 
@@ -88,14 +80,6 @@ impl TryFrom<u128> for Duplex {
     }
 }
 
-impl From<Modulation> for u128 {
-    ghost from_gives = { λ modulation code. code ≡ modulation_code modulation };
-
-    fn from(modulation: Modulation) -> u128 {
-        modulation as u128
-    }
-}
-
 impl TryFrom<u128> for Modulation {
     type Error = ReservedCode;
 
@@ -107,14 +91,6 @@ impl TryFrom<u128> for Modulation {
             1 => Ok(Modulation::Gmsk),
             _ => Err(ReservedCode),
         }
-    }
-}
-
-impl From<Coding> for u128 {
-    ghost from_gives = { λ coding code. code ≡ coding_code coding };
-
-    fn from(coding: Coding) -> u128 {
-        coding as u128
     }
 }
 
@@ -179,23 +155,23 @@ pub(crate) fn link_word(link: LinkEstablishment) -> Option<u128>
     assemble(&[
         (3, Name::LinkEstablishment as u128),
         (1, 0),
-        (1, u128::from(link.forward)),
-        (1, u128::from(link.query)),
-        (1, u128::from(link.rejected)),
-        (1, u128::from(link.no_more_data)),
-        (1, u128::from(link.transmit)),
-        (3, u128::from(link.duplex)),
-        (1, u128::from(link.right_hand)),
-        (1, u128::from(link.non_coherent)),
+        (1, link.forward as u128),
+        (1, link.query as u128),
+        (1, link.rejected as u128),
+        (1, link.no_more_data as u128),
+        (1, link.transmit as u128),
+        (3, link.duplex as u128),
+        (1, link.right_hand as u128),
+        (1, link.non_coherent as u128),
         (2, 0),
-        (4, u128::from(link.modulation)),
-        (3, u128::from(link.modulation_index)),
+        (4, link.modulation as u128),
+        (3, link.modulation_index as u128),
         (1, 0),
-        (6, u128::from(link.coding)),
+        (6, link.coding as u128),
         (2, 0),
-        (8, u128::from(link.signal_to_noise)),
+        (8, link.signal_to_noise as u128),
         (8, 0),
-        (16, u128::from(link.symbol_rate)),
-        (32, u128::from(link.frequency)),
+        (16, link.symbol_rate as u128),
+        (32, link.frequency as u128),
     ])
 }

@@ -56,6 +56,7 @@ impl Summary {
     }
 
     /// Counts a refusal by its number.
+    // Not by a fault: each layer's faults are a type of its own, and what is told at the end are numbers.
     pub fn count_refusal(&mut self, number: u8)
         ensures { self.new ≡ refused_once number self.old }
     {

@@ -1,6 +1,6 @@
 //! What an SPDU holds, and the items that its reader hands out.
 ghost use Rattle.std.specs.Prelude.{◌≡◌};
-ghost use Rattle.spdu.specs.Item.{GivesType, content_seen, content_value, directive_fields, fields_seen, item_fields, item_value, maybe_seen, opened, opens_field, single, type_code, type_of};
+ghost use Rattle.spdu.specs.Item.{GivesType, content_seen, content_value, directive_fields, fields_seen, item_fields, item_value, maybe_seen, opened, opens_field, single, type_of};
 
 use super::report::{Report, read_report};
 use directive::directive::{Directive, read_directive};
@@ -84,14 +84,6 @@ impl<'a> Item<'a> {
             | Item::SetVr(octets)
             | Item::SourceId(octets) => directive_fields(octets),
         }
-    }
-}
-
-impl From<SpduType> for u128 {
-    ghost from_gives = { λ kind code. code ≡ type_code kind };
-
-    fn from(kind: SpduType) -> u128 {
-        kind as u128
     }
 }
 

@@ -46,7 +46,7 @@ fn variable_word(kind: SpduType, count: usize) -> Option<u128>
     ensures answer { result ≡ (if fits variable_layout (variable_fields kind count) then Some (join variable_layout (variable_fields kind count)) else None) }
     ensures small { IfSome result (λ w. (w < 256) × (count < 16)) }
 {
-    assemble(&[(1, 0), (3, u128::from(kind)), (4, count as u128)])
+    assemble(&[(1, 0), (3, kind as u128), (4, count as u128)])
 }
 
 // An octet and others after it, at most sixteen in all.
