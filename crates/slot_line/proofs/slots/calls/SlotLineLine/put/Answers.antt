@@ -15,6 +15,6 @@ returns-clause-line c =
     rw (← c.self.view_is)
     record {
       limit = grind arith;
-      answer = sym c.in_ok-admission.was ∙ c.admission.ensures ∙ rw (c.count.ensures, c.size.ensures, slots_count c.self.inside.store.now c.self.inside.lengths.now g) refl;
+      answer = sym c.in_ok-admission.was ∙ c.admission.ensures ∙ rw (c.count.ensures, c.size.ensures.size, slots_count c.self.inside.store.now c.self.inside.lengths.now g) refl;
       list = inl (refl, rw (c.lay.ensures.after, longer) (pushed _ c.self.invariant f slot short few next));
     }
