@@ -24,6 +24,10 @@ fits [] (v ∷ vs) = false
 fits (w ∷ ws) [] = false
 fits (w ∷ ws) (v ∷ vs) = nat_lt v (2 ^ w) && fits ws vs
 
+-- the number of the values of these fields, unless one is wider than its field
+abbrev pub word_of : List ℕ → List ℕ → Option ℕ
+word_of ws vs = cond (fits ws vs) (Some (join ws vs)) None
+
 -- taking apart gives back what was put together, whatever the layout
 abbrev pub CutUndoesJoin : Type 0
 CutUndoesJoin = (ws vs : List ℕ) → fits ws vs ≡ true → cut ws (join ws vs) ≡ vs

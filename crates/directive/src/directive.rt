@@ -89,7 +89,7 @@ impl Directive {
 
 // The word of a directive's fields. None where a value is wider than its field.
 fn directive_word(directive: Directive) -> Option<u128>
-    ensures { result ≡ (if directive_fits directive then Some (directive_word directive) else None) }
+    ensures { result ≡ word_of (layout_for directive) (fields_for directive) }
 {
     match directive {
         Directive::LinkEstablishment(link) => link_word(link),
@@ -142,6 +142,7 @@ impl Encode for Directive {
 
     ghost no_room = { Buffer };
 
+    // A call of its own does the work, since it promises more: that reading undoes it.
     fn write(self, buffer: &mut [u8]) -> Result<usize, SpduFault> {
         write_directive(self, buffer)
     }

@@ -1,6 +1,6 @@
 //! The link establishment directive, 96 bits.
 ghost use Rattle.std.specs.Prelude.{◌≡◌, if◌then◌else◌, Some, None};
-ghost use Rattle.bits.specs.Layout.{cut, fits, join};
+ghost use Rattle.bits.specs.Layout.{cut, word_of};
 ghost use Rattle.directive.specs.Link.{GivesCoding, GivesDuplex, GivesModulation, link_fields, link_of, link_rules};
 ghost use Rattle.directive.specs.Rule.{allowed, layout};
 
@@ -150,7 +150,7 @@ pub(crate) fn link_of(word: u128) -> Result<LinkEstablishment, SpduFault>
 
 /// The 96 bits of a directive. None where a value is wider than its field.
 pub(crate) fn link_word(link: LinkEstablishment) -> Option<u128>
-    ensures { result ≡ (if fits (layout link_rules) (link_fields link) then Some (join (layout link_rules) (link_fields link)) else None) }
+    ensures { result ≡ word_of (layout link_rules) (link_fields link) }
 {
     assemble(&[
         (3, Name::LinkEstablishment as u128),

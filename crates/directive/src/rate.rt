@@ -6,7 +6,7 @@ ghost use Rattle.directive.specs.Rate.{rate_allowed, rate_answer};
 pub fn rate_is_allowed(field: u16) -> bool
     ensures { result ≡ rate_allowed field }
 {
-    field >= 0x23d0 && field <= 0x53d0
+    (0x23d0..=0x53d0).contains(&field)
 }
 
 /// Twice the symbols per second that a field stands for, since some rates end in a half. None out of range.

@@ -1,6 +1,6 @@
 //! The header of a frame: its first five octets.
-ghost use Rattle.std.specs.Prelude.{◌≡◌, ◌∷◌, if◌then◌else◌, Some, None, ok_or};
-ghost use Rattle.bits.specs.Layout.{cut, fits, join};
+ghost use Rattle.std.specs.Prelude.{◌≡◌, ok_or};
+ghost use Rattle.bits.specs.Layout.{cut, word_of};
 ghost use Rattle.frame.specs.declared.fault.FrameFault.TheVariants as fault;
 ghost use Rattle.frame.specs.Header.{allowed, bit, construction_of, header_fields, header_layout, header_of, id_of_bit, kind_of, quality_of};
 
@@ -58,6 +58,7 @@ pub struct Header {
     pub number: u8,
 }
 
+/// By the quality's bit in the header.
 impl From<bool> for Quality {
     ghost from_gives = { λ set quality. quality ≡ quality_of (bit set) };
 
@@ -70,6 +71,7 @@ impl From<bool> for Quality {
     }
 }
 
+/// By the kind's bit in the header.
 impl From<bool> for Kind {
     ghost from_gives = { λ set kind. kind ≡ kind_of (bit set) };
 
@@ -78,6 +80,7 @@ impl From<bool> for Kind {
     }
 }
 
+/// By the bit in the header that tells whose id it holds.
 impl From<bool> for IdOf {
     ghost from_gives = { λ set id_of. id_of ≡ id_of_bit (bit set) };
 
@@ -175,7 +178,7 @@ pub fn header_of(word: u128) -> Option<Header>
 /// The five octets of a header as one word, in a frame whose length field holds `last`. None where a value is wider
 /// than its field.
 pub fn header_word(header: Header, last: u128) -> Option<u128>
-    ensures { result ≡ (if fits header_layout (header_fields header last) then Some (join header_layout (header_fields header last)) else None) }
+    ensures { result ≡ word_of header_layout (header_fields header last) }
 {
     assemble(&[
         (2, 2),

@@ -7,7 +7,7 @@ use bits::put_first;
 use queue::queue::Octets;
 use std::marker::Model;
 
-/// How many octets the longest directive has.
+/// How many octets a queue keeps of a directive at most: those of the longest SPDU.
 pub const LONGEST_DIRECTIVE: usize = 16;
 
 /// The octets of a directive, 16 at most. They are kept with their number in one value that can be copied, so that a

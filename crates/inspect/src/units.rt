@@ -109,6 +109,7 @@ fn print_checked(rt: &HostRuntime, unit: &[u8], told: Result<(), SpduFault>) -> 
 }
 
 /// Prints what a supervisory unit says, and hands on its refusal.
+// Two results: a refused unit is printed and counted, and only printing can fail.
 pub(crate) fn print_unit(rt: &HostRuntime, unit: &[u8]) -> io::Result<Result<(), SpduFault>> {
     let told = match print_items(rt, unit) {
         Ok(()) => Ok(()),

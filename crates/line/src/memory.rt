@@ -17,8 +17,8 @@ pub fn try_memory(octets: usize, each: usize, limit: usize) -> Result<(), LineFa
     Ok(())
 }
 
-/// Lays octets over memory from a place on, and answers whether they had room there, which many a caller knows and may
-/// let go. Without room nothing changes.
+/// Lays octets over memory from a place on, and answers whether they had room there. Without room nothing changes.
+// A flag: callers that know of the room let it go, and a Result with one refusal and no value would say no more.
 pub fn lay(store: &mut [u8], at: usize, octets: &[u8]) -> bool
     ensures answer { result ≡ room_for store.old at octets.now }
     ensures after { store.new ≡ laid store.old at octets.now }

@@ -10,7 +10,7 @@ use super::line::Line;
 pub fn admission(frame: &[u8], full: bool) -> Result<(), LineFault>
     ensures { result ≡ admission full frame.now }
 {
-    if frame.len() < 5 || frame.len() > 2048 {
+    if !(5..=2048).contains(&frame.len()) {
         return Err(LineFault::FrameSize);
     }
     if full {

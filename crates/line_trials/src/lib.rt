@@ -21,9 +21,14 @@ pub struct Outcome {
 
 // Puts three frames, numbered 1 to 3, as far as they are granted.
 fn put_three<L: Line>(line: &mut L) -> usize {
-    (1..4u8)
-        .filter(|&number| line.put(&[0x8c, 0x05, 0x38, 0x05, number, 0xaa]).is_ok())
-        .count()
+    let mut granted = 0usize;
+    for number in 1..4u8 {
+        let frame = [0x8c, 0x05, 0x38, 0x05, number, 0xaa];
+        if line.put(&frame).is_ok() {
+            granted = granted.saturating_add(1);
+        }
+    }
+    granted
 }
 
 // Moves at most four frames from one line to the other.

@@ -71,6 +71,7 @@ impl Reader {
         ensures written { ReadsBack self.old.reading result self.new.latest }
         ensures only { ReadsOnly self.old.reading result }
         ensures first { TellsFirst self.old.reading result }
+        ensures few { length self.old.reading.octets ≤ LONGEST }
     {
         self.forget();
         let held = self.place.conclude(self.octets.len(), self.column);

@@ -1,11 +1,12 @@
 //! The memory of a slot line, and which slots of it are used.
-pub mod calls;
+mod calls;
 pub mod making;
 
 use ring::Ring;
 use std::marker::Model;
 
 /// A line over slots: the slots, end to end, the length of the frame in each, and which of them are used.
+// Two slices, since the caller lends them so: a store of octets, and a table of lengths.
 #[derive(Drop, Debug)]
 pub struct SlotLine<'a> {
     store: &'a mut [u8],

@@ -12,7 +12,7 @@ use directive::fault::SpduFault;
 pub struct Items<'a> {
     unit: &'a [u8],
     // What comes before any directive: the fault of the SPDU's header, or the one item of an SPDU that is not of
-    // Type 5.
+    // Type 5. None where directives come, or nothing more.
     first: Result<Option<Item<'a>>, SpduFault>,
     // The octet of the unit where the next directive starts.
     at: usize,

@@ -77,6 +77,7 @@ impl Encode for Report {
 
     ghost no_room = { Buffer };
 
+    // A call of its own does the work, since it promises more: that reading undoes it.
     fn write(self, buffer: &mut [u8]) -> Result<usize, SpduFault> {
         write_report(self, buffer)
     }

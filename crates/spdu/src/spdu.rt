@@ -43,7 +43,7 @@ pub fn read_spdu(octets: &[u8]) -> Result<Spdu<'_>, SpduFault>
 
 // The header octet of a variable SPDU. None where the length is wider than its field.
 fn variable_word(kind: SpduType, count: usize) -> Option<u128>
-    ensures answer { result ≡ (if fits variable_layout (variable_fields kind count) then Some (join variable_layout (variable_fields kind count)) else None) }
+    ensures answer { result ≡ word_of variable_layout (variable_fields kind count) }
     ensures small { IfSome result (λ w. (w < 256) × (count < 16)) }
 {
     assemble(&[(1, 0), (3, kind as u128), (4, count as u128)])
@@ -60,7 +60,7 @@ fn header_then(header: u8, octets: &[u8]) -> [u8; 16]
     all
 }
 
-// Puts a variable SPDU first into the buffer. It is not `Packed`: sixteen octets are more than a word of fields has.
+// Puts a variable SPDU first into the buffer. It is not `Packed`: sixteen octets of fields are more bits than `assemble` takes.
 fn write_variable(kind: SpduType, octets: &[u8], buffer: &mut [u8]) -> Result<usize, SpduFault>
     ensures answer { result ≡ write_answer SpduFault.Buffer (encoded_spdu (variable kind octets.now)) buffer.old }
     ensures after { buffer.new ≡ written (encoded_spdu (variable kind octets.now)) buffer.old }
@@ -93,6 +93,7 @@ impl Encode for Spdu<'_> {
 
     ghost no_room = { Buffer };
 
+    // A call of its own does the work, since it promises more: that reading undoes it.
     fn write(self, buffer: &mut [u8]) -> Result<usize, SpduFault> {
         write_spdu(self, buffer)
     }

@@ -48,7 +48,11 @@ impl Octets for Slip {
 
     ghost few = { Prim.search rules };
 
-    fn octet_count(&self) -> u16 {
+    fn octet_count(&self) -> u16
+        ensures octets { result ≡ min self.now.length 2043 }
+        ensures length { self.now.length ≤ 2043 }
+        ensures port { self.now.port ≤ 7 }
+    {
         self.length
     }
 }

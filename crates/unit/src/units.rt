@@ -62,7 +62,7 @@ pub fn hold(
         length: count as u16,
     };
     let queued = queue.add(units.slips, slip)?;
-    let _ = lay(units.store, SLOT * index, octets);
+    lay(units.store, SLOT * index, octets);
     Ok(queued)
 }
 
@@ -85,7 +85,7 @@ pub fn copy_unit(
     let index = queue.index(place);
     let slip = units.slips[index];
     let start = SLOT * index;
-    let _ = lay(buffer, 0, &units.store[start..start + slip.length as usize]);
+    lay(buffer, 0, &units.store[start..start + slip.length as usize]);
     Ok(Some(slip))
 }
 

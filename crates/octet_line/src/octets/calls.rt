@@ -1,8 +1,8 @@
 //! What an octet line does.
 ghost use Rattle.std.specs.Prelude.{◌≡◌, ◌≤◌, false, length};
-ghost use Rattle.line.specs.Line.{Puts, Takes, filled, oldest};
+ghost use Rattle.line.specs.Line.{Counts, Puts, Takes, filled, oldest};
 ghost use Rattle.octet_line.specs.Frames.{frames_in};
-ghost use Rattle.octet_line.specs.Octets.{ring_after, used_in, waiting_in};
+ghost use Rattle.octet_line.specs.Octets.{IsOctetLine, ring_after, used_in, waiting_in};
 
 use super::OctetLine;
 use super::round::{add_frame, read_round};
@@ -61,7 +61,10 @@ impl<'a> Line for OctetLine<'a> {
         Ok(Some(count))
     }
 
-    fn count(&self) -> (usize, usize) {
+    fn count(&self) -> (usize, usize)
+        ensures line { Counts (waiting_in self.now) result }
+        ensures memory { IsOctetLine self.now }
+    {
         (self.count, self.limit)
     }
 }

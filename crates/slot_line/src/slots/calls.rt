@@ -1,7 +1,7 @@
 //! What a slot line does.
 ghost use Rattle.std.specs.Prelude.{◌≡◌, ◌↔◌, false, IsNone, IfSome};
-ghost use Rattle.line.specs.Line.{Puts, Takes};
-ghost use Rattle.slot_line.specs.Slots.{SameMemory, lengths_after, slot, store_after, waiting_in};
+ghost use Rattle.line.specs.Line.{Counts, Puts, Takes};
+ghost use Rattle.slot_line.specs.Slots.{IsSlotLine, SameMemory, lengths_after, slot, store_after, waiting_in};
 
 use super::SlotLine;
 use line::fault::LineFault;
@@ -62,7 +62,10 @@ impl<'a> Line for SlotLine<'a> {
         Ok(Some(count))
     }
 
-    fn count(&self) -> (usize, usize) {
+    fn count(&self) -> (usize, usize)
+        ensures line { Counts (waiting_in self.now) result }
+        ensures memory { IsSlotLine self.now }
+    {
         (self.ring.count(), self.ring.size())
     }
 }
