@@ -21,6 +21,7 @@ name_of n =
     (cond (n == 2) (Some name.SetVr)
     (cond (n == 3) (Some name.SourceId) None)))
 
+-- a code that is reserved gives no name
 abbrev pub GivesName : ℕ → Result Name ReservedCode → Type 0
 GivesName n r = r ≡ ok_or (name_of n) (record {})
 

@@ -25,7 +25,7 @@ duplex_code SimplexReceive = 4
 abbrev pub duplex_of : ℕ → Duplex
 duplex_of n = cond (n == 0) NoChange (cond (n == 1) Full (cond (n == 2) Half (cond (n == 3) SimplexTransmit SimplexReceive)))
 
--- a code that is reserved gives none
+-- a code that is reserved gives an error, here and below
 abbrev pub GivesDuplex : ℕ → Result Duplex ReservedCode → Type 0
 GivesDuplex n r = r ≡ (if nat_le n 4 then Ok (duplex_of n) else Err (record {}))
 

@@ -69,6 +69,7 @@ item_fields (directive n o) = directive_fields o
 abbrev pub type_of : ℕ → Option SpduType
 type_of n = cond (n == 0) (Some Type1) (cond (n == 1) (Some Type2) (cond (n == 2) (Some Type3) (cond (n == 4) (Some Type5) None)))
 
+-- a code that is reserved gives no type
 abbrev pub GivesType : ℕ → Result SpduType ReservedCode → Type 0
 GivesType n r = r ≡ ok_or (type_of n) (record {})
 
