@@ -1,7 +1,8 @@
 //! Reading and writing directives.
-ghost use Rattle.std.specs.Prelude.{◌≡◌, drop, take, IfOk, if◌then◌else◌, Some, None, Ok};
+ghost use Rattle.std.specs.Prelude.{◌≡◌, drop, take, IfOk, Ok};
 ghost use Rattle.bits.specs.Codec.{write_answer, written};
-ghost use Rattle.directive.specs.Directive.{GivesName, Within, directive_fits, directive_in, directive_word, encoded_directive, first_directive, front, name_for, read_directive, size_of};
+ghost use Rattle.bits.specs.Layout.{word_of};
+ghost use Rattle.directive.specs.Directive.{GivesName, Within, directive_fits, directive_in, directive_word, encoded_directive, fields_for, first_directive, front, layout_for, name_for, read_directive, size_of};
 ghost use Rattle.directive.specs.declared.fault.SpduFault.TheVariants.{Buffer};
 
 use super::fault::SpduFault;

@@ -1,5 +1,5 @@
 //! The link establishment directive, 96 bits.
-ghost use Rattle.std.specs.Prelude.{◌≡◌, if◌then◌else◌, Some, None};
+ghost use Rattle.std.specs.Prelude.{◌≡◌};
 ghost use Rattle.bits.specs.Layout.{cut, word_of};
 ghost use Rattle.directive.specs.Link.{GivesCoding, GivesDuplex, GivesModulation, link_fields, link_of, link_rules};
 ghost use Rattle.directive.specs.Rule.{allowed, layout};

@@ -86,7 +86,7 @@ impl Ring {
         Ring {
             first: 0,
             count: 0,
-            ..self
+            size: self.size,
         }
     }
 

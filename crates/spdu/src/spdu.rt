@@ -1,7 +1,7 @@
 //! Whole SPDUs: the checker, reading and writing.
-ghost use Rattle.std.specs.Prelude.{◌≡◌, ◌+◌, ◌<◌, ◌≤◌, ◌∷◌, length, take, IfSome, IfOk, if◌then◌else◌, Some, None, Ok, OnOk};
+ghost use Rattle.std.specs.Prelude.{◌≡◌, ◌+◌, ◌<◌, ◌≤◌, ◌∷◌, length, take, IfSome, IfOk, Ok, OnOk};
 ghost use Rattle.bits.specs.Codec.{write_answer, written};
-ghost use Rattle.bits.specs.Layout.{fits, join};
+ghost use Rattle.bits.specs.Layout.{word_of};
 ghost use Rattle.directive.specs.declared.fault.SpduFault.TheVariants.{Buffer};
 ghost use Rattle.spdu.specs.Item.{reading};
 ghost use Rattle.spdu.specs.Spdu.{encoded_spdu, read_spdu, spdu_seen, spdu_value, variable, variable_fields, variable_layout};

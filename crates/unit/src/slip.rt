@@ -1,5 +1,5 @@
 //! What a queue keeps of a unit beside its octets.
-ghost use Rattle.std.specs.Prelude.{◌≡◌};
+ghost use Rattle.std.specs.Prelude.{◌≡◌, ◌≤◌, min};
 ghost use Rattle.frame.specs.declared.header.Quality.TheVariants.{SequenceControlled};
 
 use frame::header::Quality;

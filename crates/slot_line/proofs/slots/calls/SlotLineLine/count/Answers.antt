@@ -5,4 +5,7 @@ use Rattle.slot_line.proofs.slots.calls.SlotLineLine.count.Goals as goal
 pub returns : goal.returns
 returns c =
     rw (← c.self.view_is)
-    record { sound = slots_sound _ c.self.invariant; waiting = c.count.ensures ∙ sym (slots_count _ _ _); limit = c.size.ensures.size }
+    record {
+      line = record { sound = slots_sound _ c.self.invariant; waiting = c.count.ensures ∙ sym (slots_count _ _ _); limit = c.size.ensures.size };
+      memory = c.self.invariant;
+    }
