@@ -60,6 +60,7 @@ impl Summary {
     pub fn count_refusal(&mut self, number: u8)
         ensures { self.new ≡ refused_once number self.old }
     {
+        // By an index: with `get_mut` the check did not see which count changes.
         let place = usize::from(number);
         if place < NUMBERS {
             self.refused[place] = one_more(self.refused[place]);
