@@ -96,7 +96,7 @@ pub trait Encode {
         ensures after { buffer.new ≡ written (encoded self) buffer.old };
 }
 
-/// Taking apart and putting together undo each other, for every layout.
+/// Taking apart and putting together undo each other, for every layout: answers true.
 pub fn layouts_hold() -> bool
     ensures cut_undoes_join { CutUndoesJoin }
     ensures join_undoes_cut { JoinUndoesCut }

@@ -196,6 +196,7 @@ pub fn directive_at(unit: &[u8], at: usize) -> Result<Option<Name>, SpduFault>
     if at >= unit.len() {
         return Ok(None);
     }
+    // No `map_err`: a closure would have to say what `moved` asks.
     match first_directive(&unit[at..]) {
         Ok(directive) => Ok(directive.map(Directive::name)),
         Err(fault) => Err(fault.moved(at)),

@@ -63,6 +63,7 @@ pub struct LinkEstablishment {
     pub frequency: u32,
 }
 
+// Each type lists its own codes, and so do names and types of SPDUs: a generic reading would still need the three tables.
 impl TryFrom<u128> for Duplex {
     type Error = ReservedCode;
 

@@ -59,6 +59,7 @@ pub struct Header {
 }
 
 /// By the quality's bit in the header.
+// Three like this, each with two names of its own, which a generic one would have to be given.
 impl From<bool> for Quality {
     ghost from_gives = { λ set quality. quality ≡ quality_of (bit set) };
 
@@ -141,6 +142,7 @@ impl fmt::Display for IdOf {
     }
 }
 
+// A match and not `matches!`: it is read as a table.
 /// Whether the kind allows the quality and the construction: a supervisory frame is expedited and of packets.
 pub fn is_allowed(kind: Kind, quality: Quality, construction: Construction) -> bool
     ensures { result ≡ allowed kind quality construction }

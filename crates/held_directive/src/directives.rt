@@ -1,8 +1,8 @@
 //! Queues of directives.
 //!
 //! A queue of directives is the numbers of a queue and a table of directives. The caller lends the table to each call,
-//! which tries first whether it fits, so the two stay two values. The calls hand on to those of any queue; they have
-//! the shape of the calls for units.
+//! which tries first whether it fits, so the two stay two values. The calls hand on to those of any queue, and
+//! stay by name: an end calls for units and for directives in the same way.
 ghost use Rattle.std.specs.Prelude.{◌≡◌};
 ghost use Rattle.queue.specs.Queue.{Added, Fitted, Freed, Keeps};
 ghost use Rattle.held_directive.specs.Directives.{CopiesDirective, directive_octets};

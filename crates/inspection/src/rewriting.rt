@@ -28,6 +28,7 @@ const LONGEST_DIRECTIVE: usize = 12;
 fn has_put<E: Drop>(answer: Result<usize, E>, buffer: &[u8], octets: &[u8]) -> bool
     ensures { Decides result ((answer ≡ Ok (length octets.now)) × (buffer.now ≡ beginning octets.now buffer.now)) }
 {
+    // By early returns: as one condition it was not proved.
     let Ok(count) = answer else {
         return false;
     };
@@ -50,6 +51,7 @@ where
     has_put(answer, &buffer, octets)
 }
 
+// Four calls by name, since each type has its own room.
 /// Whether a frame is written as these octets.
 pub fn frame_is(frame: Frame<'_>, octets: &[u8]) -> bool
     ensures { Decides result (encoded (frame_value frame.entry) ≡ Ok octets.now) }

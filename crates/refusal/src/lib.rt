@@ -32,7 +32,8 @@ impl fmt::Display for Layer {
 }
 
 /// A refusal by one of the layers.
-// Three calls and no record of the three: most impls answer the number and the layer in one word each.
+// Three calls and no record of the three: most impls answer the number and the layer in one word each. Each layer has a
+// type of its own, and an impl with it, so that a call answers no refusal that it cannot give.
 pub trait Fault {
     ghost told: { Self → Place };
 

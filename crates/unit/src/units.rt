@@ -30,6 +30,7 @@ pub struct Units<'a> {
 }
 
 /// Whether the memory is that of a queue of units.
+// A test and no refusal: an end asks it of all its memory before it refuses.
 pub fn fits(queue: &Queue, units: &Units<'_>) -> bool
     ensures answer { result ≡ memory_fits queue.now.ring units.now.slips.now units.now.store.now }
     ensures sound { Sound queue.now.ring }
@@ -82,6 +83,7 @@ pub fn copy_unit(
     if place >= queue.count() {
         return Ok(None);
     }
+    // Not by `copy_out`: the index is wanted twice, for the slip and for its slot.
     let index = queue.index(place);
     let slip = units.slips[index];
     let start = SLOT * index;

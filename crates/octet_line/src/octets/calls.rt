@@ -28,6 +28,7 @@ impl<'a> OctetLine<'a> {
     }
 }
 
+// The slot line has the same steps, over other memory: what they share is `admission`, `lay` and the ring.
 impl<'a> Line for OctetLine<'a> {
     ghost waiting = { waiting_in };
 

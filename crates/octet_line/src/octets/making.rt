@@ -7,6 +7,7 @@ use line::fault::LineFault;
 use line::memory::try_memory;
 use ring::Ring;
 
+// The slot line's makings are like these, over memory of another shape: what they share is `try_memory`.
 /// Tries what an octet line over so many octets asks, for a limit.
 pub fn try_octets(octets: usize, limit: usize) -> Result<(), LineFault>
     ensures { result ≡ making_answer octets limit }

@@ -25,6 +25,7 @@ impl<'a> SlotLine<'a> {
     }
 }
 
+// The octet line has the same steps, over other memory: what they share is `admission`, `lay` and the ring.
 impl<'a> Line for SlotLine<'a> {
     ghost waiting = { waiting_in };
 

@@ -7,6 +7,7 @@ use line::fault::LineFault;
 use line::memory::try_memory;
 use ring::Ring;
 
+// The octet line's makings are like these, over memory of another shape: what they share is `try_memory`.
 /// Tries what a slot line over so many octets and lengths asks, for a limit.
 pub fn try_slots(octets: usize, lengths: usize, limit: usize) -> Result<(), LineFault>
     ensures { result ≡ making_answer octets lengths limit }
