@@ -3,13 +3,8 @@ use Rattle.std.proofs.Common.{◌≡◌, ℕ, ◌+◌, ◌-◌, ◌<◌, ◌≤�
 use Rattle.std.proofs.lemmas.List.{same_lists, get_or_append_left, get_or-append_right, length_push, get_or_push, get_or_read, get_or_past, drop_all}
 use Rattle.std.proofs.lemmas.Bool.{cases_lt, cases_eq}
 use Rattle.std.proofs.lemmas.Bool.Decides.{nat_tests}
+use Rattle.ring.proofs.Places.{place_low, place_high}
 use Rattle.ring.specs.Ring.{Numbers, queued, index_of, grown, without, Sound}
-
-before_end : (g : Numbers) (k : ℕ) → g.first + k < g.size → index_of g k ≡ g.first + k
-before_end g k h = grind (arith, nat_tests)
-
-past_end : (g : Numbers) (k : ℕ) → g.size ≤ g.first + k → index_of g k ≡ g.first + k - g.size
-past_end g k h = grind (arith, nat_tests)
 
 pub index_within : (g : Numbers) (k : ℕ) → Sound g → k ≤ g.size → index_of g k < g.size
 index_within g k s h = grind (arith, nat_tests)
@@ -35,8 +30,8 @@ module _ {T : Type 0} (g : Numbers) (t : List T) (s : Sound g) (fit : length t �
   element k d h =
       get_or-take g.count (drop g.first (t ++ t)) k d h ∙ get_or-drop g.first (t ++ t) k d
       ∙ ⊎_elim
-      (λ (l : g.first + k < g.size). get_or_append_left t t d (g.first + k) (omega arith) ∙ ap (λ i. get_or t i d) (sym (before_end g k l)))
-      (λ (l : g.size ≤ g.first + k). get_or-append_right t t g.size (g.first + k) d fit l ∙ ap (λ i. get_or t i d) (sym (past_end g k l)))
+      (λ (l : g.first + k < g.size). get_or_append_left t t d (g.first + k) (omega arith) ∙ ap (λ i. get_or t i d) (sym (place_low g.size g.first k l)))
+      (λ (l : g.size ≤ g.first + k). get_or-append_right t t g.size (g.first + k) d fit l ∙ ap (λ i. get_or t i d) (sym (place_high g.size g.first k l)))
       (cases_lt (g.first + k) g.size)
 
   -- what was read at the index of a place, against any default
