@@ -1,7 +1,7 @@
 -- What holds of reading and writing in any format.
-use Rattle.std.proofs.Common.{◌≡◌, ℕ, ◌≤◌, Bool, true, false, cond, leb, List, length, take, drop, IfOk, Some, None, Ok, Err, Result, sym, refl, ap, ◌∙◌, arith}
+use Rattle.std.proofs.Common.{◌≡◌, ℕ, ◌<◌, ◌≤◌, Bool, true, false, cond, leb, List, length, take, drop, IfOk, Some, None, Ok, Err, Result, sym, refl, ap, ◌∙◌, arith}
 use Rattle.std.proofs.lemmas.List.{take_at}
-use Rattle.std.proofs.lemmas.Bool.{le-leb}
+use Rattle.std.proofs.lemmas.Bool.{le-leb, lt-leb}
 use Rattle.std.specs.Option.{ok_or}
 use Rattle.bits.specs.Codec.{encoding, beginning, put, put_answer, write_answer, written}
 
@@ -21,6 +21,10 @@ pub some_tells : (t : Bool) (n w : ℕ) → Some w ≡ cond t (Some n) None → 
 some_tells true n w e = (refl, cc)
 some_tells false n w e = absurd (let z : ◌≡◌ {A = ℕ} 0 1 = cc in omega arith)
 
+pub none_tells : (t : Bool) (n : ℕ) → None ≡ cond t (Some n) None → t ≡ false
+none_tells true n e = absurd (let z : ◌≡◌ {A = ℕ} 0 1 = cc in omega arith)
+none_tells false n e = refl
+
 -- what a writing promises that is refused: no encoding, or no room
 pub record Refused {E : Type 0} (small e : E) (r : Result (List ℕ) E) (buffer : List ℕ) : Type 0 where
   pub answer : Err e ≡ write_answer small r buffer
@@ -28,6 +32,14 @@ pub record Refused {E : Type 0} (small e : E) (r : Result (List ℕ) E) (buffer 
 
 pub no_encoding : {E : Type 0} (small e : E) (r : Result (List ℕ) E) (buffer : List ℕ) → r ≡ Err e → Refused small e r buffer
 no_encoding small e r buffer h = record { answer = ap (λ x. write_answer small x buffer) (sym h); after = ap (λ x. written x buffer) (sym h) }
+
+pub no_room : {E : Type 0} (small : E) (r : Result (List ℕ) E) (o buffer : List ℕ) → r ≡ Ok o → length buffer < length o → Refused small small r buffer
+no_room small r o buffer h short =
+    let t : leb (length o) (length buffer) ≡ false = lt-leb (length o) (length buffer) short in
+    record {
+      answer = sym (ap (λ x. write_answer small x buffer) h ∙ ap (λ b. cond b (Ok (length o)) (Err small)) t);
+      after = sym (ap (λ x. written x buffer) h ∙ ap (λ b. cond b (beginning o buffer) buffer) t);
+    }
 
 -- what a writing promises that is granted: how many octets there are, and that they come first in the buffer
 pub record Wrote {E : Type 0} (small : E) (r : Result (List ℕ) E) (o buffer : List ℕ) : Type 0 where
@@ -69,9 +81,12 @@ puts small r read v o buffer h e = record {
 pub puts_known : {V E : Type 0} (small : E) (r : Result (List ℕ) E) (read : List ℕ → Result V E) (v : V) (o buffer : List ℕ) (x : Result ℕ E) (after : List ℕ) → r ≡ Ok o → read o ≡ Ok v → x ≡ ok_or (put_answer o buffer) small → after ≡ put o buffer → Puts small r read v buffer x after
 puts_known small r read v o buffer x after h e ex ea = rw (ex, ea) (puts small r read v o buffer h e)
 
--- an encoding whose octets reading takes, and one whose octets it refuses
+-- an encoding whose octets reading takes, one whose octets it refuses, and one of values that do not fit
 pub encodes : {V E : Type 0} (wide : E) (fit : Bool) (o : List ℕ) (read : Result V E) (v : V) → fit ≡ true → read ≡ Ok v → encoding wide fit o read ≡ Ok o
 encodes wide fit o read v f e = ap (λ t. encoding wide t o read) f ∙ ap (encoding wide true o) e
 
 pub unreadable : {V E : Type 0} (wide : E) (fit : Bool) (o : List ℕ) (read : Result V E) (x : E) → fit ≡ true → read ≡ Err x → encoding wide fit o read ≡ Err x
 unreadable wide fit o read x f e = ap (λ t. encoding wide t o read) f ∙ ap (encoding wide true o) e
+
+pub wide_encoding : {V E : Type 0} (wide : E) (fit : Bool) (o : List ℕ) (read : Result V E) → fit ≡ false → encoding wide fit o read ≡ Err wide
+wide_encoding wide fit o read f = ap (λ t. encoding wide t o read) f

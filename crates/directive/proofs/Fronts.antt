@@ -1,14 +1,14 @@
 -- The directive at the front of octets.
-use Rattle.std.proofs.Common.{◌≡◌, ℕ, ◌+◌, ◌-◌, ◌*◌, ◌/◌, ◌%◌, ◌^◌, ◌<◌, ◌≤◌, Bool, true, false, cond, leb, eqb, List, [], ◌∷◌, length, get_or, take, is_ok, IfErr, Some, None, Ok, Err, Option, Result, sym, refl, ap, ◌∙◌, subst, arith}
+use Rattle.std.proofs.Common.{◌≡◌, ℕ, ◌+◌, ◌-◌, ◌*◌, ◌/◌, ◌%◌, ◌^◌, ◌<◌, ◌≤◌, Bool, true, false, cond, leb, eqb, List, [], ◌∷◌, length, get_or, take, drop, is_ok, IfErr, Some, None, Ok, Err, Option, Result, sym, refl, ap, ◌∙◌, subst, arith, length-drop}
 use Rattle.std.specs.Option.{option_map}
 use Rattle.std.proofs.lemmas.List.{length-take-le, get_or-take, take_all}
-use Rattle.std.proofs.lemmas.Bool.{le-leb, leb-true, eq-eqb, eqb-true}
+use Rattle.std.proofs.lemmas.Bool.{le-leb, lt-leb, leb-true, eq-eqb, eqb-true}
 use Rattle.bits.specs.Codec.{carry}
-use Rattle.bits.specs.Layout.{total, number}
+use Rattle.bits.specs.Layout.{total, cut, number}
 use Rattle.bits.proofs.Layouts.{number_small, front_octets}
 use Rattle.directive.specs.Fault.{spdu_fault, moved}
 use Rattle.directive.specs.Rule.{Rule, layout, leftmost, verdict, judged}
-use Rattle.directive.specs.Directive.{name_of, rules_of, size_of, fields_in, named, front, directive_of, directive_in, named_directive, first_directive, whole, read_directive, name_for}
+use Rattle.directive.specs.Directive.{name_of, rules_of, size_of, fields_in, named, front, Within, directive_of, directive_in, named_directive, first_directive, whole, read_directive, name_for}
 use Rattle.directive.specs.declared.directive.Directive.{Directive}
 use Rattle.directive.specs.declared.directive.Name.{Name}
 use Rattle.directive.specs.declared.directive.Name.TheVariants as name
@@ -38,6 +38,12 @@ pub front_named : (at : ℕ) (o : List ℕ) (m : Option Name) → 0 < length o �
 front_named at [] m h e = absurd (omega arith)
 front_named at (x ∷ o) m h e = ap (λ k. named at k (x ∷ o)) (sym e)
 
+-- the octets end inside the directive
+pub front_cut : (at : ℕ) (o : List ℕ) (n : Name) → 0 < length o → Some n ≡ name_of (get_or o 0 0 / 32) → length o < size_of n → front at o ≡ Err (fault.Cut at)
+front_cut at o n h e short =
+    front_named at o (Some n) h e
+    ∙ ap (λ t. cond t (carry (judged at (rules_of n) (fields_in n (take (size_of n) o))) (λ _. Ok (Some n))) (Err (fault.Cut at))) (lt-leb (size_of n) (length o) short)
+
 -- octets enough for a directive: its fields decide
 pub front_judged : (at : ℕ) (o : List ℕ) (n : Name) → 0 < length o → Some n ≡ name_of (get_or o 0 0 / 32) → size_of n ≤ length o → front at o ≡ carry (judged at (rules_of n) (fields_in n (take (size_of n) o))) (λ _. Ok (Some n))
 front_judged at o n h e room =
@@ -47,6 +53,13 @@ front_judged at o n h e room =
 -- the octets of a directive are one word
 front_word : (o : List ℕ) (n : Name) → ((i : ℕ) → get_or o i 0 < 256) → size_of n ≤ length o → number (take (size_of n) o) % 2 ^ 128 ≡ number (take (size_of n) o)
 front_word o n bytes enough = number_small (take (size_of n) o) (front_octets (size_of n) o bytes) (omega (arith, size_small n, length-take-le (size_of n) o enough))
+
+-- the same by the word of the octets, with what is judged of it
+pub word_judged : (at : ℕ) (o : List ℕ) (n : Name) (size w : ℕ) (r : Result (Unit {0}) SpduFault) → ((i : ℕ) → get_or o i 0 < 256) → 0 < length o → Some n ≡ name_of (get_or o 0 0 / 32) → size ≡ size_of n → size ≤ length o → w ≡ number (take (size - 0) o) % 2 ^ 128 → r ≡ judged at (rules_of n) (cut (layout (rules_of n)) w) → front at o ≡ carry r (λ _. Ok (Some n))
+word_judged at o n size w r bytes h e same enough word j =
+    let room : size_of n ≤ length o = omega (arith, same, enough) in
+    let whole : w ≡ number (take (size_of n) o) = word ∙ ap (λ k. number (take k o) % 2 ^ 128) (omega (arith, same)) ∙ front_word o n bytes room in
+    front_judged at o n h e room ∙ ap (λ x. carry x (λ _. Ok (Some n))) (sym (j ∙ ap (λ k. judged at (rules_of n) (cut (layout (rules_of n)) k)) whole))
 
 -- the first directive by the word of its octets
 pub first_in : (o : List ℕ) (n : Name) (size w : ℕ) (r : Result Directive SpduFault) → ((i : ℕ) → get_or o i 0 < 256) → 0 < length o → Some n ≡ name_of (get_or o 0 0 / 32) → size ≡ size_of n → size ≤ length o → w ≡ number (take (size - 0) o) % 2 ^ 128 → r ≡ directive_in n w → first_directive o ≡ carry r (λ d. Ok (Some d))
@@ -61,24 +74,32 @@ first_in o n size w r bytes h e same enough word j =
     ∙ sym (through judge d (λ x. Ok (Some x)))
     ∙ ap (λ x. carry x (λ y. Ok (Some y))) (sym (j ∙ ap (directive_in n) whole))
 
--- what a directive that was found says of its octets
+-- where a directive starts does not decide whether its fields are fine
+anywhere : (at k : ℕ) (a b : Option ℕ) → verdict at a b ≡ Ok tt → verdict k a b ≡ Ok tt
+anywhere at k (Some i) b h = cc
+anywhere at k None (Some i) h = cc
+anywhere at k None None h = refl
+
+-- what a directive that was found says of its octets: its fields are fine, wherever it starts
 pub record Found (m : Option Name) (o : List ℕ) (n : Name) : Type 0 where
   pub name : m ≡ Some n
   pub room : size_of n ≤ length o
-  pub fine : judged 0 (rules_of n) (fields_in n (take (size_of n) o)) ≡ Ok tt
+  pub fine : (at : ℕ) → judged at (rules_of n) (fields_in n (take (size_of n) o)) ≡ Ok tt
 
 judged_ok : (r : Result (Unit {0}) SpduFault) (n m : Name) → carry r (λ _. Ok (Some n)) ≡ Ok (Some m) → (r ≡ Ok tt) × (n ≡ m)
 judged_ok (Ok u) n m e = (refl, cc)
 judged_ok (Err f) n m e = cc
 
-pub named_ok : (o : List ℕ) (k : Option Name) (n : Name) → named 0 k o ≡ Ok (Some n) → Found k o n
-named_ok o None n e = cc
-named_ok o (Some k) n e = by (leb (size_of k) (length o)) refl e
+pub named_ok : (at : ℕ) (o : List ℕ) (k : Option Name) (n : Name) → named at k o ≡ Ok (Some n) → Found k o n
+named_ok at o None n e = cc
+named_ok at o (Some k) n e = by (leb (size_of k) (length o)) refl e
   where
-    by : (t : Bool) → leb (size_of k) (length o) ≡ t → cond t (carry (judged 0 (rules_of k) (fields_in k (take (size_of k) o))) (λ _. Ok (Some k))) (Err (fault.Cut 0)) ≡ Ok (Some n) → Found (Some k) o n
+    by : (t : Bool) → leb (size_of k) (length o) ≡ t → cond t (carry (judged at (rules_of k) (fields_in k (take (size_of k) o))) (λ _. Ok (Some k))) (Err (fault.Cut at)) ≡ Ok (Some n) → Found (Some k) o n
     by true q h =
-        let g = judged_ok (judged 0 (rules_of k) (fields_in k (take (size_of k) o))) k n h in
-        subst (λ m. Found (Some k) o m) g.1 (record { name = refl; room = leb-true (size_of k) (length o) q; fine = g.0 })
+        let fs = fields_in k (take (size_of k) o) in
+        let g = judged_ok (judged at (rules_of k) fs) k n h in
+        let fine : (i : ℕ) → judged i (rules_of k) fs ≡ Ok tt = λ i. anywhere at i (leftmost (λ r. r.code) (rules_of k) 0 fs) (leftmost (λ r. r.range) (rules_of k) 0 fs) g.0 in
+        subst (λ m. Found (Some k) o m) g.1 (record { name = refl; room = leb-true (size_of k) (length o) q; fine = fine })
     by false q h = cc
 
 -- an answer whose fault is told of octets that start at the octet `at` of others
@@ -172,11 +193,7 @@ read-first o d h = by (front 0 o) h
     by (Err x) q = cc
 
 pub front_ok : (at : ℕ) (x : ℕ) (o : List ℕ) (n : Name) → front at (x ∷ o) ≡ Ok (Some n) → Found (name_of (x / 32)) (x ∷ o) n
-front_ok at x o n e = named_ok (x ∷ o) (name_of (x / 32)) n (stays (front 0 (x ∷ o)) (sym (front-moves at (x ∷ o)) ∙ e))
-  where
-    stays : (r : Result (Option Name) SpduFault) → moved_all at r ≡ Ok (Some n) → r ≡ Ok (Some n)
-    stays (Ok m) q = cc
-    stays (Err x) q = cc
+front_ok at x o n e = named_ok at (x ∷ o) (name_of (x / 32)) n e
 
 -- octets that are there are a directive or a fault
 pub never_none : (at : ℕ) (x : ℕ) (o : List ℕ) → front at (x ∷ o) ≡ Ok None → ⊥
@@ -191,6 +208,16 @@ never_none at x o e = by (name_of (x / 32)) e
     by None q = cc
     by (Some n) q = room n (leb (size_of n) (length (x ∷ o))) (judged at (rules_of n) (fields_in n (take (size_of n) (x ∷ o)))) q
 
+-- a directive that was found lies within its unit
+pub front_within : (at : ℕ) (unit : List ℕ) (r : Result (Option Name) SpduFault) → r ≡ front at (drop at unit) → Within at unit r
+front_within at unit (Ok (Some n)) e = within_rest (drop at unit) refl (sym e)
+  where
+    within_rest : (o : List ℕ) → drop at unit ≡ o → front at o ≡ Ok (Some n) → at + size_of n ≤ length unit
+    within_rest [] q h = cc
+    within_rest (x ∷ o) q h = let g = front_ok at x o n h in omega (arith, g.room, ap length q, length-drop at unit)
+front_within at unit (Ok None) e = tt
+front_within at unit (Err x) e = tt
+
 -- a directive that was found can be read alone
 pub found_reads : (at : ℕ) (x : ℕ) (o : List ℕ) (n : Name) → front at (x ∷ o) ≡ Ok (Some n) → is_ok (read_directive (take (size_of n) (x ∷ o))) ≡ true
 found_reads at x o n e =
@@ -203,7 +230,7 @@ found_reads at x o n e =
     let again : front 0 p ≡ Ok (Some n) =
     front_judged 0 p n (omega (arith, size, size_positive n)) (sym (ap (λ k. name_of (k / 32)) first ∙ g.name)) (omega (arith, size))
     ∙ ap (λ q. carry (judged 0 rules (fields_in n q)) (λ _. Ok (Some n))) (take_all (size_of n) p (omega (arith, size)))
-    ∙ ap (λ r. carry r (λ _. Ok (Some n))) g.fine
+    ∙ ap (λ r. carry r (λ _. Ok (Some n))) (g.fine 0)
     in
     ap (λ r. is_ok (carry r (whole p))) again
     ∙ ap (λ t. is_ok (cond t (Ok (directive_of n fs)) (Err fault.Length))) (eq-eqb (size_of n) (length p) (sym size))

@@ -5,6 +5,7 @@ use Rattle.std.proofs.lemmas.Bool.{eq-eqb, eqb-true}
 use Rattle.std.proofs.lemmas.Bool.Decides.{nat_tests}
 use Rattle.bits.specs.Codec.{carry, encoding}
 use Rattle.bits.specs.Layout.{total, cut, join, fits, octets, number}
+use Rattle.bits.proofs.Codecs.{granted}
 use Rattle.bits.proofs.Layouts.{join_below, cut_undoes_join, join_undoes_cut, cut_fits, length_cut, number_cut, cut_number, number_octets, first_bits}
 use Rattle.directive.specs.Rule.{layout, judged}
 use Rattle.directive.specs.Directive.{name_of, rules_of, size_of, fields_in, front, whole, read_directive, directive_of, name_for, fields_for, directive_fits, directive_word, directive_octets, encoded_directive}
@@ -74,6 +75,17 @@ own_octets d h =
     in
     ap (λ r. carry r (whole o)) at_front ∙ through (judged 0 rules (fields_for d)) (Some n) (whole o) ∙ ap (λ r. carry (judged 0 rules (fields_for d)) (λ _. r)) all
 
+answers_ok : (d : Directive) (r : Result (Unit {0}) SpduFault) → ((e : SpduFault) → carry r (λ _. Ok d) ≡ Err e → ⊥) → carry r (λ _. Ok d) ≡ Ok d
+answers_ok d (Ok u) h = refl
+answers_ok d (Err e) h = absurd (h e refl)
+
+-- reading undoes writing
+pub reading_undoes : (d : Directive) (o : List ℕ) → encoded_directive d ≡ Ok o → read_directive o ≡ Ok d
+reading_undoes d o h =
+    let g = granted fault.TooWide (directive_fits d) (directive_octets d) (read_directive (directive_octets d)) o h in
+    let own = own_octets d g.fits in
+    ap read_directive (sym g.same) ∙ own ∙ answers_ok d (judged 0 (rules_of (name_for d)) (fields_for d)) (λ e q. g.readable e (own ∙ q))
+
 -- reading a directive's own octets makes it, unless it refuses them
 pub own_word : (d : Directive) (r : Option ℕ) → r ≡ cond (directive_fits d) (Some (directive_word d)) None → IfSome r (λ w. IfOk (read_directive (cut (octets (size_of (name_for d))) w)) (λ v. v ≡ d))
 own_word d r e = rw e (by (directive_fits d) refl)
@@ -111,13 +123,13 @@ taken_at [] (Ok k) d f h =
 taken_at (x ∷ o) (Ok k) d f h =
     let w = whole_ok (x ∷ o) k d h in
     let n = w.0 in
-    let g = named_ok (x ∷ o) (name_of (x / 32)) n (f ∙ ap Ok w.1.0) in
+    let g = named_ok 0 (x ∷ o) (name_of (x / 32)) n (f ∙ ap Ok w.1.0) in
     record {
       name = n;
       first = g.name;
       some = omega arith;
       size = w.1.1.0;
-      fine = ap (λ p. judged 0 (rules_of n) (fields_in n p)) (sym (take_all (size_of n) (x ∷ o) (omega (arith, w.1.1.0)))) ∙ g.fine;
+      fine = ap (λ p. judged 0 (rules_of n) (fields_in n p)) (sym (take_all (size_of n) (x ∷ o) (omega (arith, w.1.1.0)))) ∙ g.fine 0;
       is = w.1.1.1;
     }
 

@@ -1,5 +1,5 @@
 -- A frame survives both ways through its octets.
-use Rattle.std.proofs.Common.{◌≡◌, ℕ, ◌+◌, ◌-◌, ◌^◌, ◌<◌, ◌≤◌, Bool, true, false, cond, ltb, List, ◌++◌, length, get_or, take, drop, IfOk, Some, None, Ok, Err, Option, Result, sym, refl, ap, ◌∙◌, arith, length-drop}
+use Rattle.std.proofs.Common.{◌≡◌, ℕ, ◌+◌, ◌-◌, ◌^◌, ◌<◌, ◌≤◌, Bool, true, false, cond, ltb, List, [], ◌∷◌, ◌++◌, length, get_or, take, drop, set, IfOk, Some, None, Ok, Err, Option, Result, sym, refl, ap, ◌∙◌, arith, length-drop}
 use borrow.Rule.Slice.PartMut.{put_mid}
 use Rattle.std.proofs.lemmas.List.{drop-drop, length-take-le, take-append-drop}
 use Rattle.std.proofs.lemmas.Bool.Decides.{nat_tests}
@@ -50,6 +50,16 @@ own_octets f h =
 -- a frame's encoding, test by test
 pub encoded_is : (f : FrameValue) → encoded f ≡ encoding fault.TooWide (fits header_layout (fields_of f)) (frame_octets f) (judged f)
 encoded_is f = read_alike fault.TooWide (fits header_layout (fields_of f)) (frame_octets f) (read_frame (frame_octets f)) (judged f) (own_octets f)
+
+-- the four ways of a writing
+pub too_wide : (f : FrameValue) → fits header_layout (fields_of f) ≡ false → encoded f ≡ Err fault.TooWide
+too_wide f w = codec.wide_encoding fault.TooWide (fits header_layout (fields_of f)) (frame_octets f) (read_frame (frame_octets f)) w
+
+pub no_data : (f : FrameValue) → fits header_layout (fields_of f) ≡ true → length f.payload ≡ 0 → encoded f ≡ Err fault.NoData
+no_data f w n = rw (encoded_is f) (grind (arith, nat_tests))
+
+pub not_allowed : (f : FrameValue) → fits header_layout (fields_of f) ≡ true → 0 < length f.payload → fine f ≡ false → encoded f ≡ Err fault.Construction
+not_allowed f w n a = rw (encoded_is f) (grind (arith, nat_tests))
 
 pub encodes : (f : FrameValue) → fits header_layout (fields_of f) ≡ true → 0 < length f.payload → fine f ≡ true → encoded f ≡ Ok (frame_octets f)
 encodes f w n a = rw (encoded_is f) (grind (arith, nat_tests))
@@ -106,6 +116,24 @@ writing_undoes o f bytes r =
     ∙ take-append-drop 5 o
     in
     codec.encodes fault.TooWide (fits header_layout (fields_of f)) (frame_octets f) (read_frame (frame_octets f)) f (ap (fits header_layout) same ∙ cut_fits header_layout w) (ap read_frame whole ∙ r) ∙ ap Ok whole
+
+-- a frame with five octets or more begins with five octets
+pub five_first : (o : List ℕ) → 5 ≤ length o → take 5 o ≡ get_or o 0 0 ∷ get_or o 1 0 ∷ get_or o 2 0 ∷ get_or o 3 0 ∷ get_or o 4 0 ∷ []
+five_first [] h = absurd (omega arith)
+five_first (_ ∷ []) h = absurd (omega arith)
+five_first (_ ∷ _ ∷ []) h = absurd (omega arith)
+five_first (_ ∷ _ ∷ _ ∷ []) h = absurd (omega arith)
+five_first (_ ∷ _ ∷ _ ∷ _ ∷ []) h = absurd (omega arith)
+five_first (_ ∷ _ ∷ _ ∷ _ ∷ _ ∷ o) h = refl
+
+-- what a buffer holds after five octets and a part are written to it
+pub five_then : (xs ys : List ℕ) (a b c d e : ℕ) → 5 ≤ length xs → put_mid 5 (length ys + 5 - 5) (set (set (set (set (set xs 0 a) 1 b) 2 c) 3 d) 4 e) ys ≡ beginning (a ∷ b ∷ c ∷ d ∷ e ∷ ys) xs
+five_then [] ys a b c d e h = absurd (omega arith)
+five_then (_ ∷ []) ys a b c d e h = absurd (omega arith)
+five_then (_ ∷ _ ∷ []) ys a b c d e h = absurd (omega arith)
+five_then (_ ∷ _ ∷ _ ∷ []) ys a b c d e h = absurd (omega arith)
+five_then (_ ∷ _ ∷ _ ∷ _ ∷ []) ys a b c d e h = absurd (omega arith)
+five_then (_ ∷ _ ∷ _ ∷ _ ∷ _ ∷ xs) ys a b c d e h = let shorter : length ys + 5 - 5 ≡ length ys = omega arith in rw shorter
 
 -- what a buffer holds after a header and a data field are written to it
 pub header_then : (word : ℕ) (payload buffer : List ℕ) → put_mid 5 (length payload + 5 - 5) (cut (octets 5) word ++ drop 5 buffer) payload ≡ beginning (cut (octets 5) word ++ payload) buffer

@@ -1,9 +1,14 @@
 -- What memory holds after octets were laid over it.
 use Rattle.std.proofs.Common.{◌≡◌, ℕ, ◌+◌, ◌≤◌, cond, List, ◌++◌, length, take, drop, refl, ap, ◌∙◌, zero-add, arith, rules}
-use Rattle.std.proofs.lemmas.List.{length-take-le, drop_at, take_at, same_lists, places}
+use borrow.Rule.Slice.PartMut.{put_mid}
+use Rattle.std.proofs.lemmas.List.{length-take-le, drop-drop, drop_at, take_at, same_lists, places}
 use Rattle.std.proofs.lemmas.Bool.{le-leb}
 use Rattle.bits.specs.Codec.{beginning}
 use Rattle.line.specs.Memory.{overlaid, laid}
+
+-- a write to a part of a slice lays octets over it
+pub part_written : (s ys f : List ℕ) (a k : ℕ) → ys ≡ f → k ≡ length f → put_mid a k s ys ≡ overlaid s a f
+part_written s ys f a k e d = ap (λ (y : List ℕ). take a s ++ (y ++ drop k (drop a s))) e ∙ ap (λ (z : List ℕ). take a s ++ (f ++ z)) (drop-drop k a s ∙ ap (λ (j : ℕ). drop (a + j) s) d)
 
 -- octets with room are laid
 pub laid_room : (s f : List ℕ) (a : ℕ) → a + length f ≤ length s → laid s a f ≡ overlaid s a f

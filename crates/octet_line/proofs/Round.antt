@@ -9,6 +9,17 @@ use Rattle.ring.proofs.Places.{place_low, place_high, place_on, place_back}
 use Rattle.ring.proofs.Rings.{index_within, counted, element}
 use Rattle.octet_line.specs.Frames.{laid_round}
 
+-- octets that were laid, and those before and behind them
+module _ (s o : List ℕ) (a j d : ℕ) (h : a + length o ≤ length s) where
+  pub laid_in : a ≤ j → j < a + length o → get_or (laid s a o) j d ≡ get_or o (j - a) d
+  laid_in l m = ap (λ (z : List ℕ). get_or z j d) (laid_room s o a h) ∙ grind (arith, places)
+
+  pub laid_left : j < a → get_or (laid s a o) j d ≡ get_or s j d
+  laid_left l = ap (λ (z : List ℕ). get_or z j d) (laid_room s o a h) ∙ grind (arith, places)
+
+  pub laid_right : a + length o ≤ j → get_or (laid s a o) j d ≡ get_or s j d
+  laid_right l = ap (λ (z : List ℕ). get_or z j d) (laid_room s o a h) ∙ grind (arith, places)
+
 module _ (r o : List ℕ) (a : ℕ) (h : a < length r) (l : length o ≤ length r) where
   round_is : laid_round r a o ≡ drop (length r - a) o ++ drop (length (drop (length r - a) o)) (take a r ++ (take (length r - a) o ++ drop (a + length (take (length r - a) o)) r))
   round_is =
@@ -34,8 +45,8 @@ module _ (r o : List ℕ) (a : ℕ) (h : a < length r) (l : length o ≤ length 
       (cases_lt i (length r - a)))
 
 -- octets laid behind the used ones are used after them
-pub queued_more : (g : Numbers) (t o : List ℕ) → Sound g → length t ≡ g.size → 1 ≤ length o → g.count + length o ≤ g.size → queued (grown (length o) g) (laid_round t (index_of g g.count) o) ≡ queued g t ++ o
-queued_more g t o s fit some fits =
+pub queued_behind : (g : Numbers) (t o : List ℕ) → Sound g → length t ≡ g.size → g.count < g.size → g.count + length o ≤ g.size → queued (grown (length o) g) (laid_round t (index_of g g.count) o) ≡ queued g t ++ o
+queued_behind g t o s fit less fits =
     let i = index_of g g.count in
     let u = laid_round t i o in
     let near : i < length t = omega (arith, index_within g g.count s (omega arith)) in
@@ -57,3 +68,6 @@ queued_more g t o s fit some fits =
     let e : place (length t) i (k - g.count) ≡ index_of g k = rw fit (place_on g.size g.first g.count (k - g.count) s.within (omega arith) ∙ ap (index_of g) (let z : g.count + (k - g.count) ≡ k = omega arith in z)) in
     there ∙ subst (λ j. get_or u j d ≡ get_or o (k - g.count) d) e (round_in t o i near room (k - g.count) d (omega arith)) ∙ sym (get_or-append_right (queued g t) o g.count k d short x))
     (cases_lt k g.count))
+
+pub queued_more : (g : Numbers) (t o : List ℕ) → Sound g → length t ≡ g.size → 1 ≤ length o → g.count + length o ≤ g.size → queued (grown (length o) g) (laid_round t (index_of g g.count) o) ≡ queued g t ++ o
+queued_more g t o s fit some fits = queued_behind g t o s fit (omega (arith, some, fits)) fits

@@ -59,7 +59,7 @@ module _ (s : Octets) (h : IsOctetLine s) where
     length_first : length (take (told (used_in s)) (drop 2 (used_in s))) ≡ told (used_in s)
     length_first = let fits = ahead.fits in length-take-le (told (used_in s)) (drop 2 (used_in s)) (rw length-drop (omega arith))
 
-    popped : frames_in s.count (used_in s) ≡ take (told (used_in s)) (drop 2 (used_in s)) ∷ frames_in (s.count - 1) (drop (2 + told (used_in s)) (used_in s))
+    pub popped : frames_in s.count (used_in s) ≡ take (told (used_in s)) (drop 2 (used_in s)) ∷ frames_in (s.count - 1) (drop (2 + told (used_in s)) (used_in s))
     popped = frames_pop s.count (used_in s) some
 
     pub oldest_is : (n : ℕ) → n ≡ told (used_in s) → Some n ≡ oldest (frames_in s.count (used_in s))
@@ -82,7 +82,7 @@ module _ (s : Octets) (h : IsOctetLine s) where
       pub fits : 2 + n ≤ s.ring.count
       fits = let e = first_is in let fits = ahead.fits in let long = used_length in omega arith
 
-      rest : queued (without (2 + n) s.ring) s.octets ≡ drop (2 + told (used_in s)) (used_in s)
+      pub rest : queued (without (2 + n) s.ring) s.octets ≡ drop (2 + told (used_in s)) (used_in s)
       rest =
           let e : min (2 + n) s.ring.count ≡ 2 + n = omega (arith, fits) in
           rw e at (queued_without s.ring s.octets (2 + n) h.ring h.room) ∙ ap (λ m. drop (2 + m) (used_in s)) first_is

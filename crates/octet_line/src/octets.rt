@@ -1,5 +1,5 @@
 //! The memory of an octet line, and which octets of it are used.
-mod calls;
+pub mod calls;
 pub mod making;
 mod round;
 

@@ -1,5 +1,5 @@
 -- The laws of a ring: how many elements it has and where they lie, one more, and some gone.
-use Rattle.std.proofs.Common.{◌≡◌, ℕ, ◌+◌, ◌-◌, ◌<◌, ◌≤◌, min, ◌≢◌, List, [], ◌∷◌, ◌++◌, length, get_or, drop, set, sym, ap, ◌∙◌, ⊎_elim, arith, length-append, length-drop, length-set, length-take, get_or-drop, get_or-set_other, get_or-take, get_or-set_same}
+use Rattle.std.proofs.Common.{◌≡◌, ℕ, suc, ◌+◌, ◌-◌, ◌<◌, ◌≤◌, min, ◌≢◌, List, [], ◌∷◌, ◌++◌, length, get_or, drop, set, sym, ap, ◌∙◌, ⊎_elim, arith, drop-cons, length-append, length-drop, length-set, length-take, get_or-drop, get_or-set_other, get_or-take, get_or-set_same}
 use Rattle.std.proofs.lemmas.List.{same_lists, get_or_append_left, get_or-append_right, length_push, get_or_push, get_or_read, get_or_past, drop_all}
 use Rattle.std.proofs.lemmas.Bool.{cases_lt, cases_eq}
 use Rattle.std.proofs.lemmas.Bool.Decides.{nat_tests}
@@ -19,6 +19,10 @@ shifted g n k s h = grind (arith, nat_tests)
 
 pub without_sound : (g : Numbers) (n : ℕ) → Sound g → n ≤ g.count → Sound (without n g)
 without_sound g n s h = record { within = index_within g n s (omega arith); most = omega arith; small = s.small }
+
+-- a place that is taken lies before the ring's size, so its index needs no limit
+pub index_there : (g : Numbers) (k i : ℕ) → Sound g → k < g.count → i ≡ index_of g (min k g.size) → i ≡ index_of g k
+index_there g k i s h at = at ∙ ap (index_of g) (let e : min k g.size ≡ k = omega (arith, s.most) in e)
 
 -- over a table of the ring's size
 module _ {T : Type 0} (g : Numbers) (t : List T) (s : Sound g) (fit : length t ≡ g.size) where
@@ -43,6 +47,14 @@ module _ {T : Type 0} (g : Numbers) (t : List T) (s : Sound g) (fit : length t �
   -- past the last element there is none
   pub no_element : (k : ℕ) (d : T) → g.count ≤ k → d ≡ get_or (queued g t) k d
   no_element k d h = sym (get_or_past (queued g t) k d (omega (arith, counted)))
+
+  pub none_past : (k : ℕ) → g.count ≤ k → drop k (queued g t) ≡ []
+  none_past k h = drop_all k (queued g t) (omega (arith, counted))
+
+  -- and behind the element at a place come the others
+  pub elements_from : (k : ℕ) (x : T) → k < g.count → x ≡ get_or t (index_of g k) x → drop k (queued g t) ≡ x ∷ drop (suc k) (queued g t)
+  elements_from k x h read =
+      drop-cons (queued g t) k x (omega (arith, counted)) ∙ ap (λ y. y ∷ drop (suc k) (queued g t)) (sym (element_read k x x h read))
 
 -- an element behind the others
 pub queued_grown : {T : Type 0} (g : Numbers) (t : List T) (x : T) → Sound g → length t ≡ g.size → g.count < g.size → queued (grown 1 g) (set t (index_of g g.count) x) ≡ queued g t ++ x ∷ []

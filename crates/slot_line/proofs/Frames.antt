@@ -21,10 +21,15 @@ slots_count store lengths g = length-map-range_with_len (λ k. slot store length
 frame_at : (store lengths : List ℕ) (g : Numbers) (k : ℕ) (d : List ℕ) → k < g.count → get_or (slots store lengths g) k d ≡ slot store lengths (index_of g k)
 frame_at store lengths g k d h = get_or-map-range_with_len (λ k. slot store lengths (index_of g k)) 0 g.count k k d h (omega arith)
 
-module _ (s : Slots) (h : IsSlotLine s) where
-  slot_length : (i : ℕ) → i < s.ring.size → get_or s.lengths i 0 ≤ 2048 → length (slot s.store s.lengths i) ≡ get_or s.lengths i 0
-  slot_length i near short = let room = h.room in length-take-le (get_or s.lengths i 0) (drop (2048 * i) s.store) (rw length-drop (omega arith))
+-- how many octets a frame has
+pub slot_length : (store lengths : List ℕ) (limit i : ℕ) → length store ≡ 2048 * limit → i < limit → get_or lengths i 0 ≤ 2048 → length (slot store lengths i) ≡ get_or lengths i 0
+slot_length store lengths limit i room near short = length-take-le (get_or lengths i 0) (drop (2048 * i) store) (rw length-drop (omega arith))
 
+-- the length of the oldest frame
+pub first_size : (lengths : List ℕ) (g : Numbers) → g.first < g.size → 1 ≤ g.count → FrameLengths lengths g → (5 ≤ get_or lengths g.first 0) × (get_or lengths g.first 0 ≤ 2048)
+first_size lengths g near some sizes = let e : index_of g 0 ≡ g.first = grind (arith, nat_tests) in rw e at (sizes 0 some)
+
+module _ (s : Slots) (h : IsSlotLine s) where
   -- the line as a line
   pub slots_sound : Sound (waiting_in s)
   slots_sound =
@@ -36,7 +41,7 @@ module _ (s : Slots) (h : IsSlotLine s) where
         each = All-from_get_or FrameSized _ [] (λ k l.
             let m : k < s.ring.count = omega (arith, slots_count s.store s.lengths s.ring) in
             rw (frame_at s.store s.lengths s.ring k [] m)
-            (subst (λ n. (5 ≤ n) × (n ≤ 2048)) (sym (slot_length (index_of s.ring k) (index_within s.ring k ring (omega arith)) (h.sizes k m).1)) (h.sizes k m)));
+            (subst (λ n. (5 ≤ n) × (n ≤ 2048)) (sym (slot_length s.store s.lengths s.ring.size (index_of s.ring k) h.room (index_within s.ring k ring (omega arith)) (h.sizes k m).1)) (h.sizes k m)));
       }
 
   -- a frame in a slot
@@ -78,7 +83,7 @@ module _ (s : Slots) (h : IsSlotLine s) where
       ∙ ap (slot s.store s.lengths) (let e : suc k ≡ 1 + k = omega arith in ap (index_of s.ring) e ∙ sym (shifted s.ring 1 k ring (omega arith)))
       ∙ sym (frame_at s.store s.lengths (without 1 s.ring) k d (omega arith))
 
-  popped : 1 ≤ s.ring.count → slots s.store s.lengths s.ring ≡ slot s.store s.lengths s.ring.first ∷ slots s.store s.lengths (without 1 s.ring)
+  pub popped : 1 ≤ s.ring.count → slots s.store s.lengths s.ring ≡ slot s.store s.lengths s.ring.first ∷ slots s.store s.lengths (without 1 s.ring)
   popped some = same_lists _ _ (omega (arith, slots_count s.store s.lengths s.ring, slots_count s.store s.lengths (without 1 s.ring))) (λ k d l. popped_at k d (omega (arith, slots_count s.store s.lengths s.ring)))
 
   pub sizes_popped : 1 ≤ s.ring.count → FrameLengths s.lengths (without 1 s.ring)

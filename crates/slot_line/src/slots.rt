@@ -1,5 +1,5 @@
 //! The memory of a slot line, and which slots of it are used.
-mod calls;
+pub mod calls;
 pub mod making;
 
 use ring::Ring;

@@ -4,6 +4,7 @@ use Rattle.std.proofs.lemmas.Bool.{eq-eqb, eqb-true}
 use Rattle.std.proofs.lemmas.Bool.Decides.{nat_tests}
 use Rattle.bits.specs.Codec.{encoding}
 use Rattle.bits.specs.Layout.{cut, join, fits, octets, number}
+use Rattle.bits.proofs.Codecs.{granted}
 use Rattle.bits.proofs.Layouts.{join_below, cut_undoes_join, join_undoes_cut, cut_fits, number_cut, cut_number, number_octets}
 use Rattle.directive.proofs.Kept.{flag_back, flag_kept}
 use Rattle.directive.specs.declared.fault.SpduFault.{SpduFault}
@@ -26,6 +27,12 @@ own_octets r h =
     ∙ ap (λ n. report_with (cut report_layout n)) (number_cut 2 w (join_below report_layout (report_fields r) h))
     ∙ ap report_with fields
     ∙ rw (flag_back r.retransmit)
+
+-- reading undoes writing
+pub reading_undoes : (r : Report) (o : List ℕ) → encoded_report r ≡ Ok o → read_report o ≡ Ok r
+reading_undoes r o h =
+    let g = granted fault.TooWide (report_fits r) (report_octets r) (read_report (report_octets r)) o h in
+    ap read_report (sym g.same) ∙ own_octets r g.fits
 
 -- what a report that was read says of its octets
 record Taken (x y : ℕ) (r : Report) : Type 0 where

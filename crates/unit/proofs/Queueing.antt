@@ -1,25 +1,48 @@
 -- Units that come into a queue and leave it, and copies of them.
-use Rattle.std.proofs.Common.{◌≡◌, ℕ, ◌*◌, ◌<◌, ◌≤◌, min, true, List, length, get_or, take, drop, set, Some, None, Ok, sym, ap, ◌∙◌, arith, length-drop, length-take}
+use Rattle.std.proofs.Common.{◌≡◌, ℕ, ◌+◌, ◌-◌, ◌*◌, ◌<◌, ◌≤◌, min, Bool, true, false, cond, List, length, get_or, take, drop, set, Some, None, Ok, Err, Result, sym, ap, ◌∙◌, arith, length-drop, length-take}
 use Rattle.std.specs.List.{slice_get}
 use Rattle.std.specs.Option.{option_map}
 use Rattle.std.proofs.lemmas.Option.{slice_get-get_or, slice_get_past}
 use Rattle.std.proofs.lemmas.List.{length-take-le, take-take}
 use Rattle.std.proofs.lemmas.Bool.Decides.{nat_tests}
+use Rattle.bits.specs.Codec.{beginning}
 use Rattle.line.specs.Memory.{laid}
 use Rattle.line.proofs.Laying.{laid_first}
-use Rattle.queue.specs.Queue.{Added, Freed}
+use Rattle.queue.specs.Queue.{Added, Freed, add_answer}
+use Rattle.queue.specs.declared.fault.QueueFault.{QueueFault}
+use Rattle.queue.specs.declared.fault.QueueFault.TheVariants.{Table}
 use Rattle.ring.specs.Ring.{Numbers, queued, index_of, grown, Sound}
 use Rattle.ring.proofs.Rings.{counted, element, index_within, queued_grown, queued_without}
 use Rattle.unit.specs.Note.{Note}
 use Rattle.unit.specs.Unit.{UnitValue, CopiesOut, Holds, LetsGo, note_of, unit_shown, slot, unit_at, all_units, units_in, memory_fits}
 use Rattle.unit.proofs.Slots.{length_all, unit_there, all_units_set}
 
+-- what a granted adding says
+pub record Granted (g : Numbers) (ss : List Note) (n : ℕ) : Type 0 where
+  pub room : g.count < g.size
+  pub count : n ≡ g.count + 1
+
+pub granted : (g : Numbers) (ss : List Note) (n : ℕ) → Ok n ≡ add_answer g ss → Granted g ss n
+granted g ss n h = record { room = grind (arith, nat_tests); count = grind (arith, nat_tests) }
+
+-- what a granted freeing answers
+pub granted_count : (a : Bool) (k m : ℕ) → ◌≡◌ {A = Result ℕ QueueFault} (Ok k) (cond a (Ok m) (Err Table)) → k ≡ m
+granted_count true k m h = cc
+granted_count false k m h = cc
+
+-- the sizes of memory that fits
+pub fit_size : (g : Numbers) (ss : List Note) (store : List ℕ) → memory_fits g ss store ≡ true → length ss ≡ g.size
+fit_size g ss store fit = grind (arith, nat_tests)
+
+pub fit_room : (g : Numbers) (ss : List Note) (store : List ℕ) → memory_fits g ss store ≡ true → length store ≡ 2048 * g.size
+fit_room g ss store fit = grind (arith, nat_tests)
+
 module _ (g : Numbers) (ss : List Note) (store : List ℕ) (s : Sound g) (fit : memory_fits g ss store ≡ true) where
   slips : length ss ≡ g.size
-  slips = grind (arith, nat_tests)
+  slips = fit_size g ss store fit
 
   room : length store ≡ 2048 * g.size
-  room = grind (arith, nat_tests)
+  room = fit_room g ss store fit
 
   size : length (all_units ss store) ≡ g.size
   size = length_all ss store ∙ slips
@@ -36,7 +59,7 @@ module _ (g : Numbers) (ss : List Note) (store : List ℕ) (s : Sound g) (fit : 
       let octets : store' ≡ laid store (2048 * j) o = octets ∙ ap (λ k. laid store (2048 * k) o) (at ∙ ap (index_of g) last) in
       let u : UnitValue = record { port = x.port; quality = x.quality; octets = o } in
       let asked = added.answer in
-      let free : g.count < g.size = grind (arith, nat_tests) in
+      let free = (granted g ss n asked).room in
       let within : j < g.size = index_within g g.count s s.most in
       let noted : ℕ → Note = λ k. record { port = x.port; quality = x.quality; length = k } in
       let whole = all_units_set store o ss j x (omega (arith, slips)) (omega (arith, slips, room)) long (omega arith) in
@@ -71,6 +94,17 @@ module _ (g : Numbers) (ss : List Note) (store : List ℕ) (s : Sound g) (fit : 
       let near : i < length ss = omega (arith, slips, index_within g k s (omega (arith, s.most))) in
       slice_get-get_or (units_in g ss store) k u (omega (arith, how_many))
       ∙ ap Some (element g (all_units ss store) s size k u h ∙ unit_there ss store i u x near ∙ ap (unit_at store i) (sym read))
+
+  -- the octets of the slip at an index, laid at the beginning of a buffer
+  pub shown : (k i m : ℕ) (x : Note) (b b' : List ℕ) → x.length ≤ 2043 → 2043 ≤ length b → k < g.count → i ≡ index_of g k → m ≡ x.length → b' ≡ laid b 0 (take (2048 * i + m - 2048 * i) (drop (2048 * i) store)) → b' ≡ beginning (take x.length (drop (2048 * index_of g k) store)) b
+  shown k i m x b b' most large h at much after =
+      let near : i < g.size = omega (arith, at, index_within g k s (omega (arith, s.most))) in
+      let n : 2048 * i + m - 2048 * i ≡ x.length = omega arith in
+      let long : length (take x.length (drop (2048 * i) store)) ≡ x.length = length-take-le x.length (drop (2048 * i) store) (omega (arith, near, room, length-drop (2048 * i) store)) in
+      after
+      ∙ ap (λ l. laid b 0 (take l (drop (2048 * i) store))) n
+      ∙ laid_first b (take x.length (drop (2048 * i) store)) (omega (arith, long))
+      ∙ ap (λ j. beginning (take x.length (drop (2048 * j) store)) b) at
 
   -- none at the place
   pub not_copied : (k : ℕ) (b : List ℕ) → 2043 ≤ length b → g.count ≤ k → CopiesOut g ss store k b b (Ok None)
