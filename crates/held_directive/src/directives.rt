@@ -3,8 +3,9 @@
 //! A queue of directives is the numbers of a queue and a table of directives. The caller lends the table to each call,
 //! which tries first whether it fits, so the two stay two values. The calls hand on to those of any queue, and
 //! stay by name: an end calls for units and for directives in the same way.
-ghost use Rattle.std.specs.Prelude.{◌≡◌};
-ghost use Rattle.queue.specs.Queue.{Added, Fitted, Freed, Keeps};
+ghost use Rattle.std.specs.Prelude.{◌≡◌, ◌<◌, true, is_some, nat_lt, MatchResult};
+ghost use Rattle.queue.specs.Counts.{IsQueue};
+ghost use Rattle.queue.specs.Queue.{Added, Fitted, Freed, Keeps, fitting};
 ghost use Rattle.held_directive.specs.Directives.{CopiesDirective, directive_octets};
 
 use super::held::HeldDirective;
@@ -19,7 +20,8 @@ pub struct Directives<'a> {
 
 /// Whether the table has the size that the queue was made for.
 pub fn directives_fit(queue: &Queue, directives: &Directives<'_>) -> bool
-    ensures { Fitted directive_octets queue.now directives.now.entries.now result }
+    ensures fits { Fitted directive_octets queue.now directives.now.entries.now result }
+    ensures numbers { IsQueue queue.now }
 {
     queue.fits(directives.entries)
 }
@@ -32,6 +34,8 @@ pub fn hold_directive(
 ) -> Result<usize, QueueFault>
     ensures held { Added queue.old.ring directives.old.entries.now directive result queue.new.ring directives.new.entries.now }
     ensures keeps { Keeps directive_octets queue.old directives.old.entries.now result queue.new directives.new.entries.now }
+    ensures numbers_before { IsQueue queue.old }
+    ensures numbers { IsQueue queue.new }
 {
     queue.add(directives.entries, directive)
 }
@@ -45,7 +49,9 @@ pub fn copy_directive(
     place: usize,
     buffer: &mut [u8],
 ) -> Result<Option<usize>, QueueFault>
-    ensures { CopiesDirective queue.now.ring directives.now.entries.now place buffer.old buffer.new result }
+    ensures copied { CopiesDirective queue.now.ring directives.now.entries.now place buffer.old buffer.new result }
+    ensures there { MatchResult result (λ o. is_some o ≡ nat_lt place queue.now.ring.count) (λ _. fitting queue.now.ring directives.now.entries.now ≡ true → place < queue.now.ring.count) }
+    ensures numbers { IsQueue queue.now }
 {
     let Some(directive) = queue.copy_out(directives.entries, place)? else {
         return Ok(None);
@@ -62,6 +68,8 @@ pub fn free_directives(
 ) -> Result<usize, QueueFault>
     ensures freed { Freed queue.old.ring directives.now.entries.now n result queue.new.ring }
     ensures keeps { Keeps directive_octets queue.old directives.now.entries.now result queue.new directives.now.entries.now }
+    ensures numbers_before { IsQueue queue.old }
+    ensures numbers { IsQueue queue.new }
 {
     queue.free(directives.entries, n)
 }

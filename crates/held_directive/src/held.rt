@@ -87,7 +87,10 @@ impl Octets for HeldDirective {
 
     ghost few = { Prim.search rules };
 
-    fn octet_count(&self) -> u16 {
+    fn octet_count(&self) -> u16
+        ensures octets { result ≡ min (length self.now) 16 }
+        ensures few { length self.now ≤ 16 }
+    {
         self.count as u16
     }
 }

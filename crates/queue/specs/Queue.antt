@@ -1,5 +1,5 @@
 -- What each call of a queue answers and leaves.
-use Rattle.std.specs.Prelude.{◌≡◌, ℕ, ◌+◌, min, Bool, true, false, cond, ◌&&◌, List, [], ◌∷◌, ◌++◌, length, drop, is_ok, Ok, Err, sum_by, Option, Result, ◌==◌, nat_le, nat_lt, slice_get, slice_set}
+use Rattle.std.specs.Prelude.{◌≡◌, ℕ, ◌+◌, min, Bool, true, false, cond, ◌&&◌, List, [], ◌∷◌, ◌++◌, length, drop, is_some, is_ok, Ok, Err, sum_by, Option, Result, ◌==◌, nat_le, nat_lt, slice_get, slice_set}
 use Rattle.ring.specs.Ring.{Numbers, queued, index_of, grown, without}
 use Rattle.queue.specs.Counts.{Counts, empty_queue}
 use Rattle.queue.specs.Limits.{largest_table}
@@ -55,3 +55,8 @@ pub record Freed {T : Type 0} (g : Numbers) (t : List T) (n : ℕ) (r : Result �
 -- the element at a place, if there is one
 abbrev pub copied_at : {T : Type 0} → Numbers → List T → ℕ → Result (Option T) QueueFault
 copied_at g t place = over g t (slice_get (queued g t) place)
+
+-- whether there was an element, of what copying one out answers
+abbrev pub shown : {T E : Type 0} → Result (Option T) E → Result Bool E
+shown (Ok x) = Ok (is_some x)
+shown (Err e) = Err e

@@ -1,9 +1,9 @@
 //! What a queue is, what it asks of its elements, and its calls.
-ghost use Rattle.std.specs.Prelude.{◌≡◌, ℕ, ◌<◌, ◌≤◌, min, length, take, OnOk, sum_by};
+ghost use Rattle.std.specs.Prelude.{◌≡◌, ℕ, ◌<◌, ◌≤◌, min, length, take, OnOk, sum_by, nat_lt};
 ghost use Rattle.ring.specs.Ring.{Sound, index_of, queued};
-ghost use Rattle.queue.specs.Counts.{empty_queue};
+ghost use Rattle.queue.specs.Counts.{IsQueue, empty_queue};
 ghost use Rattle.queue.specs.Limits.{largest_table, most_octets};
-ghost use Rattle.queue.specs.Queue.{Added, Fitted, Freed, Keeps, copied_at, making, over};
+ghost use Rattle.queue.specs.Queue.{Added, Fitted, Freed, Keeps, copied_at, making, over, shown};
 
 use super::fault::QueueFault;
 use ring::Ring;
@@ -33,15 +33,13 @@ pub struct Queue {
 }
 
 impl Model for Queue {
-    ghost use Rattle.std.specs.Prelude.{◌≤◌};
-    ghost use Rattle.queue.specs.Counts.{Counts};
-    ghost use Rattle.queue.specs.Limits.{largest_table};
+    ghost use Rattle.queue.specs.Counts.{Counts, IsQueue};
 
     ghost Value = { Counts };
 
     ghost view = { λ q. record { ring = q.ring; total = q.total } };
 
-    ghost invariant = { λ q. q.ring.size ≤ largest_table };
+    ghost invariant = { λ q. IsQueue (record { ring = q.ring; total = q.total }) };
 
     ghost inverse = { λ n. record { ring = n.ring; total = n.total } };
 }
@@ -60,7 +58,8 @@ impl Queue {
 
     /// How many elements are queued.
     pub fn count(&self) -> usize
-        ensures { result ≡ self.now.ring.count }
+        ensures count { result ≡ self.now.ring.count }
+        ensures numbers { IsQueue self.now }
     {
         self.ring.count()
     }
@@ -76,14 +75,16 @@ impl Queue {
 
     /// How many octets the queued elements stand for together.
     pub fn total(&self) -> usize
-        ensures { result ≡ self.now.total }
+        ensures total { result ≡ self.now.total }
+        ensures numbers { IsQueue self.now }
     {
         self.total
     }
 
     /// Whether the table has the size that the queue was made for.
     pub fn fits<T: Octets>(&self, table: &[T]) -> bool
-        ensures { Fitted T.octets self.now table.now result }
+        ensures fits { Fitted T.octets self.now table.now result }
+        ensures numbers { IsQueue self.now }
     {
         table.len() == self.ring.size()
     }
@@ -93,6 +94,7 @@ impl Queue {
     pub fn index(&self, place: usize) -> usize
         ensures at { result ≡ index_of self.now.ring (min place self.now.ring.size) }
         ensures within { result < self.now.ring.size }
+        ensures numbers { IsQueue self.now }
     {
         self.ring.index(place)
     }
@@ -101,6 +103,8 @@ impl Queue {
     pub fn add<T: Copy + Octets>(&mut self, table: &mut [T], x: T) -> Result<usize, QueueFault>
         ensures added { Added self.old.ring table.old x result self.new.ring table.new }
         ensures keeps { Keeps T.octets self.old table.old result self.new table.new }
+        ensures numbers_before { IsQueue self.old }
+        ensures numbers { IsQueue self.new }
     {
         check_table(self.ring, table)?;
         let count = self.ring.count();
@@ -121,6 +125,8 @@ impl Queue {
     pub fn free<T: Octets>(&mut self, table: &[T], n: usize) -> Result<usize, QueueFault>
         ensures freed { Freed self.old.ring table.now n result self.new.ring }
         ensures keeps { Keeps T.octets self.old table.now result self.new table.now }
+        ensures numbers_before { IsQueue self.old }
+        ensures numbers { IsQueue self.new }
     {
         check_table(self.ring, table)?;
         let gone = n.min(self.ring.count());
@@ -136,7 +142,9 @@ impl Queue {
 
     /// Lets all elements go.
     pub fn clear(&mut self)
-        ensures { self.new ≡ empty_queue self.old.ring.size }
+        ensures empty { self.new ≡ empty_queue self.old.ring.size }
+        ensures numbers_before { IsQueue self.old }
+        ensures numbers { IsQueue self.new }
     {
         *self = Queue {
             ring: self.ring.cleared(),
@@ -147,7 +155,9 @@ impl Queue {
     /// A copy of the element at a place, counted from 0 at the oldest, or none where there is none.
     #[tactic(auto, using(crate::proofs::Promises::copied, crate::proofs::Promises::none_copied))]
     pub fn copy_out<T: Copy>(&self, table: &[T], place: usize) -> Result<Option<T>, QueueFault>
-        ensures { result ≡ copied_at self.now.ring table.now place }
+        ensures copied { result ≡ copied_at self.now.ring table.now place }
+        ensures there { shown result ≡ over self.now.ring table.now (nat_lt place self.now.ring.count) }
+        ensures numbers { IsQueue self.now }
     {
         check_table(self.ring, table)?;
         if place >= self.ring.count() {

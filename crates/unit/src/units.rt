@@ -4,10 +4,12 @@
 //! slip and its slot have the same index, so nothing has to be searched, and no octet moves while a unit waits. The
 //! caller lends table and store to each call, which tries first whether they fit, so a queue and its memory stay two
 //! values.
-ghost use Rattle.std.specs.Prelude.{◌≡◌, ◌*◌};
-ghost use Rattle.queue.specs.Queue.{Keeps};
+ghost use Rattle.std.specs.Prelude.{◌≡◌, ◌*◌, cond, ◌&&◌, Ok, Err, nat_lt};
+ghost use Rattle.queue.specs.Counts.{IsQueue};
+ghost use Rattle.queue.specs.Queue.{Keeps, shown};
 ghost use Rattle.ring.specs.Ring.{Sound};
-ghost use Rattle.unit.specs.Unit.{CopiesOut, Holds, LetsGo, memory_fits, slip_octets};
+ghost use Rattle.unit.specs.Unit.{CopiesOut, Holds, LetsGo, memory_fits, roomy, slip_octets};
+ghost use Rattle.unit.specs.declared.fault.UnitFault.TheVariants.{Memory};
 
 use super::fault::UnitFault;
 use super::slip::Slip;
@@ -34,6 +36,7 @@ pub struct Units<'a> {
 pub fn fits(queue: &Queue, units: &Units<'_>) -> bool
     ensures answer { result ≡ memory_fits queue.now.ring units.now.slips.now units.now.store.now }
     ensures sound { Sound queue.now.ring }
+    ensures numbers { IsQueue queue.now }
 {
     units.slips.len() == queue.size() && units.store.len() == SLOT * queue.size()
 }
@@ -48,6 +51,8 @@ pub fn hold(
 ) -> Result<usize, UnitFault>
     ensures held { Holds queue.old.ring queue.new.ring units.old.slips.now units.new.slips.now units.old.store.now units.new.store.now (record { port = port; quality = quality; octets = octets.now }) result }
     ensures keeps { Keeps slip_octets queue.old units.old.slips.now result queue.new units.new.slips.now }
+    ensures numbers_before { IsQueue queue.old }
+    ensures numbers { IsQueue queue.new }
 {
     if !fits(queue, units) {
         return Err(UnitFault::Memory);
@@ -75,7 +80,9 @@ pub fn copy_unit(
     place: usize,
     buffer: &mut [u8],
 ) -> Result<Option<Slip>, UnitFault>
-    ensures { CopiesOut queue.now.ring units.now.slips.now units.now.store.now place buffer.old buffer.new result }
+    ensures copied { CopiesOut queue.now.ring units.now.slips.now units.now.store.now place buffer.old buffer.new result }
+    ensures there { shown result ≡ cond (memory_fits queue.now.ring units.now.slips.now units.now.store.now && roomy buffer.old) (Ok (nat_lt place queue.now.ring.count)) (Err Memory) }
+    ensures numbers { IsQueue queue.now }
 {
     if !fits(queue, units) || buffer.len() < LARGEST_UNIT {
         return Err(UnitFault::Memory);
@@ -95,6 +102,8 @@ pub fn copy_unit(
 pub fn free_units(queue: &mut Queue, units: &Units<'_>, n: usize) -> Result<usize, UnitFault>
     ensures freed { LetsGo queue.old.ring queue.new.ring units.now.slips.now units.now.store.now n result }
     ensures keeps { Keeps slip_octets queue.old units.now.slips.now result queue.new units.now.slips.now }
+    ensures numbers_before { IsQueue queue.old }
+    ensures numbers { IsQueue queue.new }
 {
     if !fits(queue, units) {
         return Err(UnitFault::Memory);

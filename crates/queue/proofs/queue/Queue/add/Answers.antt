@@ -1,4 +1,5 @@
 use Rattle.std.proofs.Common.{set, arith, rules}
+use Rattle.std.proofs.lemmas.Bool.Decides.{nat_tests}
 use Rattle.queue.proofs.Promises.{added, added_tied}
 use Rattle.queue.proofs.queue.Queue.add.Goals as goal
 
@@ -13,4 +14,6 @@ returns g c =
     (record {
       added = done;
       keeps = record { tied = added_tied ring t sound fit g.T.Octets.octets g.met.T.Octets.few c.args.x _ _ _ _ _ (search rules) done (search rules); unchanged = search rules };
+      numbers_before = c.self.invariant;
+      numbers = grind (arith, nat_tests);
     })

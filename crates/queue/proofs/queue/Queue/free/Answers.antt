@@ -1,4 +1,5 @@
-use Rattle.std.proofs.Common.{rules}
+use Rattle.std.proofs.Common.{arith, rules}
+use Rattle.std.proofs.lemmas.Bool.Decides.{nat_tests}
 use Rattle.queue.proofs.Promises.{freed, freed_tied}
 use Rattle.queue.proofs.queue.Queue.free.Goals as goal
 
@@ -13,4 +14,6 @@ returns g c =
     (record {
       freed = done;
       keeps = record { tied = freed_tied ring t sound fit g.T.Octets.octets c.args.n _ _ _ _ (search rules) done (search rules); unchanged = search rules };
+      numbers_before = c.self.invariant;
+      numbers = grind (arith, nat_tests);
     })
