@@ -1,9 +1,13 @@
 -- The receiving machine (FARM-P).
-use Rattle.std.specs.Prelude.{ℕ, ◌+◌, ◌*◌, ◌%◌, ◌^◌, Bool, true, false, cond, ◌==◌, nat_lt}
+use Rattle.std.specs.Prelude.{ℕ, ◌+◌, ◌*◌, ◌%◌, ◌^◌, ◌<◌, Bool, true, false, cond, ◌==◌, nat_lt}
 use Rattle.cop.specs.Number.{width, number_after, distance}
 use Rattle.cop.specs.declared.receiver.Receiver.{Receiver}
 use Rattle.cop.specs.declared.receiving.Judgement.{Judgement}
 use Rattle.cop.specs.declared.receiving.Judgement.TheVariants.{Wanted, NoPlace, Gap, Repeat}
+
+-- what holds of every receiver: its counter of expedited frames is modulo 8
+abbrev pub IsReceiver : Receiver → Type 0
+IsReceiver r = r.counter < 8
 
 -- a receiver of nothing yet
 abbrev pub fresh_receiver : Receiver

@@ -16,14 +16,15 @@ pub struct Receiver {
 
 // A clause sees a receiver as its fields.
 impl Model for Receiver {
-    ghost use Rattle.std.specs.Prelude.{◌<◌};
     ghost use Rattle.cop.specs.declared.receiver.Receiver.TheInside as inside;
 
     ghost Value = { inside.Inside };
 
+    ghost use Rattle.cop.specs.Receiver.{IsReceiver};
+
     ghost view = { λ r. r };
 
-    ghost invariant = { λ r. r.counter < 8 };
+    ghost invariant = { IsReceiver };
 
     ghost inverse = { λ r. r };
 }

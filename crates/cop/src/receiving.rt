@@ -1,6 +1,6 @@
 //! The receiving machine.
 ghost use Rattle.std.specs.Prelude.{◌≡◌, true};
-ghost use Rattle.cop.specs.Receiver.{counted, delivers, fresh_receiver, judged, judgement, reported};
+ghost use Rattle.cop.specs.Receiver.{IsReceiver, counted, delivers, fresh_receiver, judged, judgement, reported};
 
 use super::receiver::Receiver;
 
@@ -29,14 +29,16 @@ impl Judgement {
 impl Receiver {
     /// A receiver of nothing yet.
     pub fn new() -> Receiver
-        ensures { result ≡ fresh_receiver }
+        ensures answer { result ≡ fresh_receiver }
+        ensures sound { IsReceiver result }
     {
         Receiver::default()
     }
 
     /// What becomes of the sequence-controlled frame with this number, if a place for its unit is free or not.
     pub fn judge(self, number: u8, free: bool) -> Judgement
-        ensures { result ≡ judgement self number free }
+        ensures answer { result ≡ judgement self number free }
+        ensures sound { IsReceiver self }
     {
         match number.wrapping_sub(self.wanted) {
             0 if free => Judgement::Wanted,
@@ -50,6 +52,7 @@ impl Receiver {
     pub fn after_judging(self, judgement: Judgement) -> Receiver
         ensures answer { result ≡ judged self judgement }
         ensures owes { result.owed ≡ true }
+        ensures sound { IsReceiver result }
     {
         let (wanted, retransmit) = match judgement {
             Judgement::Wanted => (self.wanted.wrapping_add(1), false),
@@ -66,7 +69,8 @@ impl Receiver {
 
     /// The machine after an expedited frame.
     pub fn after_expedited(self) -> Receiver
-        ensures { result ≡ counted self }
+        ensures answer { result ≡ counted self }
+        ensures sound { IsReceiver result }
     {
         Receiver {
             counter: (self.counter + 1) % 8,
@@ -76,7 +80,8 @@ impl Receiver {
 
     /// The machine after its report went. The flag stays: it is cleared by the frame that is wanted, not by its report.
     pub fn after_report(self) -> Receiver
-        ensures { result ≡ reported self }
+        ensures answer { result ≡ reported self }
+        ensures sound { IsReceiver result }
     {
         Receiver {
             owed: false,

@@ -1,7 +1,7 @@
 //! The sending machine.
 ghost use Rattle.std.specs.Prelude.{◌≡◌, ◌↔◌, IfSome, IsNone};
 ghost use Rattle.cop.specs.Laws.{InWindow, KeepsNumbers};
-ghost use Rattle.cop.specs.Sender.{acknowledging, expedited_sent, making_sender, number_at, sender_turn};
+ghost use Rattle.cop.specs.Sender.{IsSender, acknowledging, expedited_sent, making_sender, number_at, sender_turn};
 
 use super::sender::Sender;
 use super::step::Step;
@@ -29,7 +29,8 @@ pub struct Acknowledgement {
 impl Sender {
     /// A sender of nothing yet. None where the window is not from 1 to 127.
     pub fn new(window: u8) -> Option<Sender>
-        ensures { result ≡ making_sender window }
+        ensures answer { result ≡ making_sender window }
+        ensures sound { IfSome result IsSender }
     {
         if !(1..=127).contains(&window) {
             return None;
@@ -49,6 +50,7 @@ impl Sender {
         ensures answer { result ≡ sender_turn self }
         ensures window { IfSome result (InWindow self) }
         ensures idle { IsNone result ↔ (self.count ≡ 0) }
+        ensures sound { IfSome result (λ t. IsSender t.after) }
     {
         if self.at < self.out {
             return Some(Turn {
@@ -84,14 +86,16 @@ impl Sender {
 
     /// The number of the frame of the unit at a place.
     pub fn number_at(self, place: u8) -> u8
-        ensures { result ≡ number_at self place }
+        ensures answer { result ≡ number_at self place }
+        ensures sound { IsSender self }
     {
         self.base.wrapping_add(place)
     }
 
     /// The machine after an expedited frame went.
     pub fn after_expedited(self) -> Sender
-        ensures { result ≡ expedited_sent self }
+        ensures answer { result ≡ expedited_sent self }
+        ensures sound { IsSender result }
     {
         Sender {
             expedited: self.expedited.wrapping_add(1),
@@ -104,6 +108,7 @@ impl Sender {
     pub fn acknowledge(self, value: u8, retransmit: bool) -> Option<Acknowledgement>
         ensures answer { result ≡ acknowledging self value retransmit }
         ensures numbers { IfSome result (KeepsNumbers self) }
+        ensures sound { IfSome result (λ a. IsSender a.after) }
     {
         let freed = value.wrapping_sub(self.base);
         if freed > self.out {
