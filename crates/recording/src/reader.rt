@@ -1,5 +1,5 @@
 //! The reader of a recording.
-ghost use Rattle.std.specs.Prelude.{◌≡◌, ◌≤◌, [], length};
+ghost use Rattle.std.specs.Prelude.{◌≡◌, ◌≤◌, [], length, take};
 ghost use Rattle.recording.specs.Faults.{TellsFirst};
 ghost use Rattle.recording.specs.Lines.{extended, outcome, start, step};
 ghost use Rattle.recording.specs.Texts.{ReadsBack, ReadsOnly};
@@ -7,7 +7,6 @@ ghost use Rattle.recording.specs.Texts.{ReadsBack, ReadsOnly};
 use crate::character::Character;
 use crate::fault::TextFault;
 use crate::place::Place;
-use arrayvec::ArrayVec;
 use std::marker::Model;
 
 /// How many octets of a line are stored: one more than the longest frame has, so that a longer line is still seen to be
@@ -17,8 +16,11 @@ pub const LONGEST: usize = 2049;
 /// Reads a recording character by character, in memory that does not grow with the text.
 #[derive(Drop)]
 pub struct Reader {
-    /// The octets of the line under way or, before its first character, of the line that has just ended.
-    octets: ArrayVec<u8, LONGEST>,
+    /// In front the octets of the line under way or, before its first character, of the line that has just ended.
+    // An array and no vector of fixed room: the toolchain's is a library whose statements a check takes as they are.
+    octets: [u8; LONGEST],
+    /// How many octets these are.
+    count: usize,
     /// How many characters of the line under way were fed.
     column: u64,
     /// Where the line under way stands.
@@ -26,6 +28,7 @@ pub struct Reader {
 }
 
 impl Model for Reader {
+    ghost use Rattle.std.specs.Prelude.{◌≤◌};
     ghost use Rattle.recording.specs.Lines.{Recorded};
 
     ghost Value = { Recorded };
@@ -33,6 +36,8 @@ impl Model for Reader {
     ghost use Rattle.recording.specs.Readings.{latest, reading};
 
     ghost view = { λ r. record { reading = reading r; latest = latest r } };
+
+    ghost invariant = { λ r. r.count ≤ 2049 };
 }
 
 impl Reader {
@@ -42,7 +47,8 @@ impl Reader {
         ensures latest { result.latest ≡ [] }
     {
         Reader {
-            octets: ArrayVec::new(),
+            octets: [0; LONGEST],
+            count: 0,
             column: 0,
             place: Place::Between,
         }
@@ -55,7 +61,7 @@ impl Reader {
     {
         let kind = Character::from(character);
         self.forget();
-        store(&mut self.octets, self.place.finish(&kind));
+        self.count = store(&mut self.octets, self.count, self.place.finish(&kind));
         self.place = self.place.advance(self.column, &kind);
         self.column = self.column.saturating_add(1);
     }
@@ -74,7 +80,7 @@ impl Reader {
         ensures few { length self.old.reading.octets ≤ LONGEST }
     {
         self.forget();
-        let held = self.place.conclude(self.octets.len(), self.column);
+        let held = self.place.conclude(self.count, self.column);
         self.column = 0;
         self.place = Place::Between;
         held
@@ -86,7 +92,8 @@ impl Reader {
         ensures octets { result.now ≡ self.now.latest }
         ensures few { length result.now ≤ LONGEST }
     {
-        if self.column == 0 { &self.octets } else { &[] }
+        let count = if self.column == 0 { self.count } else { 0 };
+        &self.octets[..count]
     }
 
     /// Lets go of the octets of the line that has ended, if they are still there.
@@ -95,16 +102,23 @@ impl Reader {
         ensures latest { self.new.latest ≡ [] }
     {
         if self.column == 0 {
-            self.octets.clear();
+            self.count = 0;
         }
     }
 }
 
-/// Stores the octet that was finished, if any, unless the line has too many already.
-fn store(octets: &mut ArrayVec<u8, LONGEST>, finished: Option<u8>)
-    ensures { octets.new.items ≡ extended octets.old.items finished }
+/// Stores the octet that was finished, if any, behind the first `count`, unless these are too many already, and answers
+/// how many are stored then.
+fn store(octets: &mut [u8; LONGEST], count: usize, finished: Option<u8>) -> usize
+    requires few { count ≤ LONGEST }
+    ensures stored { take result octets.new ≡ extended (take count octets.old) finished }
+    ensures small { result ≤ LONGEST }
 {
-    if let Some(octet) = finished {
-        let _ = octets.try_push(octet);
+    match finished {
+        Some(octet) if count < LONGEST => {
+            octets[count] = octet;
+            count + 1
+        }
+        _ => count,
     }
 }
