@@ -2,6 +2,7 @@
 use super::frames::print_frame;
 use super::totals::print_totals;
 use inspection::summary::Summary;
+use recording::fault::TextFault;
 use recording::reader::Reader;
 use std::io;
 
@@ -12,6 +13,12 @@ pub struct Inspector {
     /// The number of the line under way, from 1.
     line: u64,
     summary: Summary,
+}
+
+// Out of line, since what printing needs of the stack is else made ready at the end of every line.
+#[inline(never)]
+fn print_text_fault(rt: &HostRuntime, line: u64, fault: TextFault) -> io::Result<()> {
+    println!(rt; "{line}: not a line of octets: {fault}")
 }
 
 impl Inspector {
@@ -42,7 +49,7 @@ impl Inspector {
             Ok(_) => print_frame(rt, line, self.reader.octets(), &mut self.summary),
             Err(fault) => {
                 self.summary.count_unreadable();
-                println!(rt; "{line}: not a line of octets: {fault}")
+                print_text_fault(rt, line, fault)
             }
         }
     }
