@@ -150,6 +150,7 @@ impl Encode for Directive {
 }
 
 // The directive with that name and these bits.
+#[inline(always)]
 fn directive_of(name: Name, word: u128) -> Result<Directive, SpduFault>
     ensures { result ≡ directive_in name word }
 {
@@ -172,7 +173,8 @@ fn directive_of(name: Name, word: u128) -> Result<Directive, SpduFault>
     }
 }
 
-// The directive that these octets begin with.
+// The directive that these octets begin with. Inlined, so that who wants its name alone does not have the rest made.
+#[inline(always)]
 fn first_directive(octets: &[u8]) -> Result<Option<Directive>, SpduFault>
     ensures { result ≡ first_directive octets.now }
 {

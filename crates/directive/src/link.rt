@@ -112,6 +112,7 @@ impl TryFrom<u128> for Coding {
 }
 
 /// The directive with these 96 bits. Octets of a fault count from its first.
+#[inline(always)]
 pub(crate) fn link_of(word: u128) -> Result<LinkEstablishment, SpduFault>
     ensures { let fields = cut (layout link_rules) word in result ≡ allowed link_rules fields (link_of fields) }
 {
