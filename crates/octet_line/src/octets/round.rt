@@ -13,9 +13,15 @@ fn lay_round(ring: &mut [u8], at: usize, octets: &[u8])
     requires room { length octets.now ≤ length ring.old }
     ensures { ring.new ≡ laid_round ring.old at octets.now }
 {
-    let (ahead, round) = octets.split_at(octets.len().min(ring.len() - at));
-    lay(ring, at, ahead);
-    lay(ring, 0, round);
+    let room = ring.len() - at;
+    // Most often one step does: two would cost as much again where the octets are few.
+    if octets.len() <= room {
+        lay(ring, at, octets);
+    } else {
+        let (ahead, round) = octets.split_at(room);
+        lay(ring, at, ahead);
+        lay(ring, 0, round);
+    }
 }
 
 // Lays octets behind the used ones, and answers with them the ring in which they are used too.
@@ -56,7 +62,11 @@ pub(crate) fn read_round(ring: &[u8], from: usize, count: usize, buffer: &mut [u
     requires short { count ≤ length buffer.old }
     ensures { buffer.new ≡ laid buffer.old 0 (take count (drop from (ring.now ++ ring.now))) }
 {
-    let ahead = count.min(ring.len() - from);
-    lay(buffer, 0, &ring[from..from + ahead]);
-    lay(buffer, ahead, &ring[..count - ahead]);
+    let ahead = ring.len() - from;
+    if count <= ahead {
+        lay(buffer, 0, &ring[from..from + count]);
+    } else {
+        lay(buffer, 0, &ring[from..]);
+        lay(buffer, ahead, &ring[..count - ahead]);
+    }
 }
