@@ -1,5 +1,5 @@
 //! What a queue is, what it asks of its elements, and its calls.
-ghost use Rattle.std.specs.Prelude.{◌≡◌, ℕ, ◌<◌, ◌≤◌, min, length, take, OnOk, sum_by, nat_lt};
+ghost use Rattle.std.specs.Prelude.{◌≡◌, ℕ, ◌*◌, ◌<◌, ◌≤◌, min, length, take, OnOk, sum_by, nat_lt};
 ghost use Rattle.ring.specs.Ring.{Sound, index_of, queued};
 ghost use Rattle.queue.specs.Counts.{IsQueue, empty_queue};
 ghost use Rattle.queue.specs.Limits.{largest_table, most_octets};
@@ -167,19 +167,29 @@ impl Queue {
     }
 }
 
-// The octets of the first n elements, which are met from the first place on, and round the table's end.
+// The octets of the elements of a part of a table.
+fn octets_in<T: Octets>(part: &[T]) -> usize
+    requires { length part.now ≤ largest_table }
+    ensures sum { result ≡ sum_by T.octets part.now }
+    ensures small { result ≤ most_octets * largest_table }
+{
+    part.iter().map(|x| x.octet_count() as usize).sum()
+}
+
+// The octets of the first n elements. They lie in one part of the table, or in two where they go past its end, and each
+// part is summed by itself: a chain of them would ask at each element which part it is in.
 fn octets_of_first<T: Octets>(ring: Ring, table: &[T], n: usize) -> usize
     requires whole { length table.now ≡ ring.size }
     requires small { ring.size ≤ largest_table }
     requires few { n ≤ ring.count }
     ensures { result ≡ sum_by T.octets (take n (queued ring table.now)) }
 {
-    table[ring.first()..]
-        .iter()
-        .chain(table)
-        .take(n)
-        .map(|x| x.octet_count() as usize)
-        .sum()
+    let (round, ahead) = table.split_at(ring.first());
+    if n <= ahead.len() {
+        octets_in(&ahead[..n])
+    } else {
+        octets_in(ahead) + octets_in(&round[..n - ahead.len()])
+    }
 }
 
 // Refuses a table that has not the size that the ring was made for.
