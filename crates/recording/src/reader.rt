@@ -1,7 +1,7 @@
 //! The reader of a recording.
 ghost use Rattle.std.specs.Prelude.{◌≡◌, ◌≤◌, [], length, take};
 ghost use Rattle.recording.specs.Faults.{TellsFirst};
-ghost use Rattle.recording.specs.Lines.{extended, outcome, start, step};
+ghost use Rattle.recording.specs.Lines.{joined, outcome, start, step};
 ghost use Rattle.recording.specs.Texts.{ReadsBack, ReadsOnly};
 
 use crate::character::Character;
@@ -61,7 +61,9 @@ impl Reader {
     {
         let kind = Character::from(character);
         self.forget();
-        self.count = store(&mut self.octets, self.count, self.place.finish(&kind));
+        if let Some(octet) = self.place.finish(&kind) {
+            self.count = store(&mut self.octets, self.count, octet);
+        }
         self.place = self.place.advance(self.column, &kind);
         self.column = self.column.saturating_add(1);
     }
@@ -107,18 +109,15 @@ impl Reader {
     }
 }
 
-/// Stores the octet that was finished, if any, behind the first `count`, unless these are too many already, and answers
-/// how many are stored then.
-fn store(octets: &mut [u8; LONGEST], count: usize, finished: Option<u8>) -> usize
+/// Stores an octet behind the first `count`, unless these are too many already, and answers how many are stored then.
+fn store(octets: &mut [u8; LONGEST], count: usize, octet: u8) -> usize
     requires few { count ≤ LONGEST }
-    ensures stored { take result octets.new ≡ extended (take count octets.old) finished }
+    ensures stored { take result octets.new ≡ joined (take count octets.old) octet }
     ensures small { result ≤ LONGEST }
 {
-    match finished {
-        Some(octet) if count < LONGEST => {
-            octets[count] = octet;
-            count + 1
-        }
-        _ => count,
+    if count < LONGEST {
+        octets[count] = octet;
+        return count + 1;
     }
+    count
 }
